@@ -17,7 +17,7 @@ take_after row s others is i c within read = rw is (take_next (s ∷ others) (i 
 module _ (f : Form) (first : Seen) (at : IsAtBoundary f first) where
   -- a first that is its own row
   pub becomes_own : IsOwnRow ucd first.character → (marks : List Mark) → marks ≡ [] → (before : List ℕ) → Becomes f (row_of f ucd first.character) first.character marks before before
-  becomes_own own marks alone before = becomes_one f _ marks _ before (row-own ucd f _ own) (eq-eqb _ 0 (class_of first.character ∙ sym at.sees.class ∙ at.class)) alone
+  becomes_own own marks alone before = becomes_one f _ marks _ before (row-own ucd f _ own) (eq-eqb _ 0 (class_of first.character ∙ at.class)) alone
 
   -- the first member of its row
   pub becomes_row : (row : List ℕ) (starter : ℕ) (others : List ℕ) → row ≡ row_of f ucd first.character → row ≡ starter ∷ others → (marks : List Mark) → marks ≡ [] → (before : List ℕ)
@@ -28,9 +28,9 @@ module _ (f : Form) (first : Seen) (at : IsAtBoundary f first) where
     -- one more
     pub fills_more : (piece' : Piece) → ((w before now : List ℕ) → Becomes f w piece.starter piece.run.items before now → Becomes f (w ++ row_of f ucd seen.character) piece'.starter piece'.run.items before now)
         → ((cs : List ℕ) → Leaves cs piece.room → Leaves (cs ++ seen.character ∷ []) piece'.room)
-        → (next : Seen) → next.text.now ≡ seen.after.now → Sees f next → Fills f first next piece' before now
+        → (next : Seen) → next.text.now ≡ seen.after.now → Sees next → Fills f first next piece' before now
     fills_more piece' becomes leaves next is sees =
-        let split = split_more first.text.now seen.text.now next.text.now here.front (seen.character ∷ []) here.split (split_seen f seen here.sees next.text.now is) in
+        let split = split_more first.text.now seen.text.now next.text.now here.front (seen.character ∷ []) here.split (split_seen seen here.sees next.text.now is) in
         grind (arith, begins_more f here.front (seen.character ∷ []) here.begins, decomposed-push ucd f here.front seen.character, becomes (decomposed f ucd here.front) before now here.becomes, leaves here.front here.leaves)
 
     -- and then a boundary
@@ -40,9 +40,9 @@ module _ (f : Form) (first : Seen) (at : IsAtBoundary f first) where
 
 -- ---- a non-starter more, or a character whose row is of non-starters
 
-pub leaves_mark : (f : Form) (seen : Seen) → Sees f seen → ((c : ℕ) → 0 < canonical_combining_class c → quick_check (kit_form f) c ≢ No → IsMark ucd c (canonical_combining_class c)) → seen.class ≢ 0 → seen.answer ≢ No
-    → (cs : List ℕ) (room room' : ℕ) → room' + 1 ≡ room → Leaves cs room → Leaves (cs ++ seen.character ∷ []) room'
-leaves_mark f seen sees marks some may cs room room' less here = grind (arith, nat_tests, marks seen.character, class_of seen.character, leaves_more cs seen.character room room')
+pub leaves_mark : (f : Form) (c : ℕ) → ((c : ℕ) → 0 < canonical_combining_class c → quick_check (kit_form f) c ≢ No → IsMark ucd c (canonical_combining_class c)) → canonical_combining_class c ≢ 0
+    → quick_check (kit_form f) c ≢ No → (cs : List ℕ) (room room' : ℕ) → room' + 1 ≡ room → Leaves cs room → Leaves (cs ++ c ∷ []) room'
+leaves_mark f c marks some may cs room room' less here = grind (arith, nat_tests, marks c, class_of c, leaves_more cs c room room')
 
 -- the members of a row that were held, and one more
 pub marks_next : (row : List ℕ) (i c : ℕ) → i < length row → c ≡ get_or row i c → canonical_combining_class c ≢ 0 → has_starter ucd (take i row) ≡ false → has_starter ucd (take (i + 1) row) ≡ false

@@ -39,5 +39,5 @@ pub closes_syllable : (f : Form) (first : Seen) → IsAtBoundary f first → com
     → (rest : List ℕ) (syllable : ℕ) → Spells first.character first.after.now rest syllable → (next : Seen) → next.text.now ≡ rest → IsAtBoundary f next
     → (old new : List ℕ) → new ≡ old ++ encode_utf8_all (syllable ∷ []) → Closes f first.text.now next old new
 closes_syllable f first at composing sound rest syllable letters next is after old new formed =
-    let split = split_more first.text.now first.after.now rest (first.character ∷ []) letters.front (split_seen f first at.sees first.after.now refl) letters.split in
+    let split = split_more first.text.now first.after.now rest (first.character ∷ []) letters.front (split_seen first at.sees first.after.now refl) letters.split in
     grind (arith, HasForm-cluster ucd f composing _ _ _ _ _ _ letters.made (grind arith) (sound (first.character ∷ letters.front)))

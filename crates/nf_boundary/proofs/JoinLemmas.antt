@@ -16,49 +16,49 @@ joined_is : (done cs : List ℕ) (cluster : Cluster) → AreMadeOf done cs clust
 joined_is done cs cluster here c class is = rw (here.blocked c, class_of c, is)
 
 -- a character that is not refused, and is a mark or passes NFKD, is its own row
-module _ (f : Form) (seen : Seen) (sees : Sees f seen) where
+module _ (f : Form) (seen : Seen) (class : ℕ) (class_is : class ≡ canonical_combining_class seen.character) where
   pub own_row : ((c : ℕ) → 0 < canonical_combining_class c → quick_check (kit_form f) c ≢ No → IsMark ucd c (canonical_combining_class c)) → ((c : ℕ) → quick_check KitNfkd c ≡ Yes → IsOwnRow ucd c)
-      → seen.answer ≢ No → (seen.class ≡ 0 → quick_check KitNfkd seen.character ≡ Yes) → IsOwnRow ucd seen.character
+      → quick_check (kit_form f) seen.character ≢ No → (class ≡ 0 → quick_check KitNfkd seen.character ≡ Yes) → IsOwnRow ucd seen.character
   own_row marks own may starter = grind (arith, marks seen.character, own seen.character)
 
   -- so what it makes of the cluster, by what it composes to with the starter
-  module _ (old mid : Cluster) (own : IsOwnRow ucd seen.character) (follows : (old.last ≤ seen.class) ⊎ (seen.class ≡ 0)) (room : old.count < 30)
-      (o : Option ℕ) (is : o ≡ cond (blocks old.highest seen.class) None (composite ucd old.starter seen.character)) (before after : List ℕ) where
+  module _ (old mid : Cluster) (own : IsOwnRow ucd seen.character) (follows : (old.last ≤ class) ⊎ (class ≡ 0)) (room : old.count < 30)
+      (o : Option ℕ) (is : o ≡ cond (blocks old.highest class) None (composite ucd old.starter seen.character)) (before after : List ℕ) where
     abbrev new : Cluster
-    new = record mid { last = seen.class; count = mid.count + 1 }
+    new = record mid { last = class; count = mid.count + 1 }
 
-    class_is : ucd.class seen.character ≡ seen.class
-    class_is = class_of seen.character ∙ sym sees.class
+    same_class : ucd.class seen.character ≡ class
+    same_class = class_of seen.character ∙ sym class_is
 
     joins : (done cs : List ℕ) → AreMadeOf done cs old → joined ucd old.starter old.left.items seen.character ≡ o
-    joins done cs made = joined_is done cs old made seen.character seen.class sees.class ∙ sym is
+    joins done cs made = joined_is done cs old made seen.character class class_is ∙ sym is
 
     in_order : (old.last ≤ ucd.class seen.character) ⊎ (ucd.class seen.character ≡ 0)
-    in_order = rw class_is follows
+    in_order = rw same_class follows
 
     pub joins_composed : o ≡ Some mid.starter → mid.left.items ≡ old.left.items → mid.highest ≡ old.highest → mid.count ≡ old.count → after ≡ before → Joins seen.character old new before after
     joins_composed some left highest count same = record {
       more = [];
       formed = rw (append-nil, same);
-      joins = λ done cs made. rw (append-nil, left, highest, count, ← class_is) (cluster-joined ucd _ _ _ _ _ _ made _ own in_order room _ (joins done cs made ∙ some));
+      joins = λ done cs made. rw (append-nil, left, highest, count, ← same_class) (cluster-joined ucd _ _ _ _ _ _ made _ own in_order room _ (joins done cs made ∙ some));
     }
 
-    pub joins_left : o ≡ None → seen.class ≢ 0 → mid.starter ≡ old.starter → mid.left.items ≡ old.left.items ++ seen.character ∷ [] → mid.highest ≡ seen.class → mid.count ≡ old.count → after ≡ before
+    pub joins_left : o ≡ None → class ≢ 0 → mid.starter ≡ old.starter → mid.left.items ≡ old.left.items ++ seen.character ∷ [] → mid.highest ≡ class → mid.count ≡ old.count → after ≡ before
         → Joins seen.character old new before after
     joins_left none mark starter left highest count same = record {
       more = [];
       formed = rw (append-nil, same);
-      joins = λ done cs made. rw (append-nil, starter, left, highest, count, ← class_is)
-          (cluster-left ucd _ _ _ _ _ _ made _ own in_order room (ne_eqb _ 0 (rw class_is mark)) (joins done cs made ∙ none));
+      joins = λ done cs made. rw (append-nil, starter, left, highest, count, ← same_class)
+          (cluster-left ucd _ _ _ _ _ _ made _ own in_order room (ne_eqb _ 0 (rw same_class mark)) (joins done cs made ∙ none));
     }
 
-    pub joins_next : o ≡ None → seen.class ≡ 0 → mid.starter ≡ seen.character → mid.left.items ≡ [] → mid.highest ≡ 0 → mid.count ≡ 0 → after ≡ before ++ encode_utf8_all (old.starter ∷ old.left.items)
+    pub joins_next : o ≡ None → class ≡ 0 → mid.starter ≡ seen.character → mid.left.items ≡ [] → mid.highest ≡ 0 → mid.count ≡ 0 → after ≡ before ++ encode_utf8_all (old.starter ∷ old.left.items)
         → Joins seen.character old new before after
     joins_next none starts starter left highest count grown = record {
       more = old.starter ∷ old.left.items;
       formed = grown;
-      joins = λ done cs made. rw (starter, left, highest, count, ← class_is)
-          (cluster-next ucd _ _ _ _ _ _ made _ own in_order room (eq-eqb _ 0 (class_is ∙ starts)) (joins done cs made ∙ none));
+      joins = λ done cs made. rw (starter, left, highest, count, ← same_class)
+          (cluster-next ucd _ _ _ _ _ _ made _ own in_order room (eq-eqb _ 0 (same_class ∙ starts)) (joins done cs made ∙ none));
     }
 
 -- ---- Hangul letters
@@ -84,17 +84,17 @@ joins_both text middle rest a b c first second =
 -- ---- the characters from one boundary to the next
 
 module _ (f : Form) (first : Seen) (at : IsAtBoundary f first) where
-  pub gathers_first : (one cluster : Cluster) (next : Seen) (rest formed : List ℕ) → AreMadeOf [] (first.character ∷ []) one → JoinsFront first.after.now rest one cluster → next.text.now ≡ rest → Sees f next
+  pub gathers_first : (one cluster : Cluster) (next : Seen) (rest formed : List ℕ) → AreMadeOf [] (first.character ∷ []) one → JoinsFront first.after.now rest one cluster → next.text.now ≡ rest → Sees next
       → Gathers f first next cluster formed formed
   gathers_first one cluster next rest formed made letters is sees =
-      let split = split_more first.text.now first.after.now rest (first.character ∷ []) letters.front (split_seen f first at.sees first.after.now refl) letters.split in
+      let split = split_more first.text.now first.after.now rest (first.character ∷ []) letters.front (split_seen first at.sees first.after.now refl) letters.split in
       grind (arith, append-nil, letters.joins [] (first.character ∷ []) made)
 
   module _ (cluster : Cluster) (seen : Seen) (old new : List ℕ) (here : Gathers f first seen cluster old new) where
-    pub gathers_more : (cluster' : Cluster) (next : Seen) (new' : List ℕ) → Joins seen.character cluster cluster' new new' → next.text.now ≡ seen.after.now → Sees f next
+    pub gathers_more : (cluster' : Cluster) (next : Seen) (new' : List ℕ) → Joins seen.character cluster cluster' new new' → next.text.now ≡ seen.after.now → Sees next
         → Gathers f first next cluster' old new'
     gathers_more cluster' next new' more is sees =
-        let split = split_more first.text.now seen.text.now next.text.now here.front (seen.character ∷ []) here.split (split_seen f seen here.sees next.text.now is) in
+        let split = split_more first.text.now seen.text.now next.text.now here.front (seen.character ∷ []) here.split (split_seen seen here.sees next.text.now is) in
         let formed = appended old here.done more.more new new' here.formed more.formed in
         grind (arith, begins_more f here.front (seen.character ∷ []) here.begins, more.joins here.done here.front here.made)
 

@@ -70,4 +70,4 @@ module _ (f : Form) where
         let before = encode_utf8_all here.front in
         let sees = here.after.sees in
         let u = rw (take-seam whole before _ _ here.split refl) at (IsUtf8-take whole (length before) whole_utf8 (IsCharBoundary-at_seam _ _ _ here.split sees.text_utf8)) in
-        grind (arith, chars-append before next.text.now u, chars_from_encodes here.front before u refl, chars-seen f next sees)
+        grind (arith, chars-append before next.text.now u, chars_from_encodes here.front before u refl, chars-seen next sees)

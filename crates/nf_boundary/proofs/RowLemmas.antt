@@ -1,14 +1,13 @@
 -- A character with its decomposition beside it, one that is taken apart, and one that passes the quick check.
 use Rattle.std.proofs.Common.{arith, ◌≡◌, ℕ, false, List, [], ◌∷◌, ◌==◌, length, refl, ◌∙◌, inl, IsTrue}
 use Rattle.std.proofs.Math.Seq.{drop-cons}
-use Rattle.nf_boundary.proofs.Common.{nat_tests, HasForm, composes, HasForm-row, Yes, Form, row_of, max_row, is_sound, IsSpan, IsSoundText, NeverSecond, HasBoundaryBefore, IsOwnBoundary, ucd, HasForm-span, kit_form, is_among, halfwidth_marks, passes_check, is_syllable, Seen, IsRow, IsAtBoundary}
+use Rattle.nf_boundary.proofs.Common.{nat_tests, HasForm, composes, HasForm-row, Form, row_of, max_row, is_sound, IsSpan, IsSoundText, NeverSecond, HasBoundaryBefore, IsOwnBoundary, ucd, HasForm-span, kit_form, passes_check, is_syllable, Seen, IsRow, IsAtBoundary}
 use Rattle.nf_forms.specs.Laws.SpanSteps.{begins_run}
 use Rattle.ucd_normal.specs.declared.forms.Form.{Form as KitForm}
 use Rattle.unicode_normalization.specs.Decompose.{table_of, decompose}
 use Rattle.nf_boundary.specs.declared.rows.Row.{Row}
 use Rattle.nf_forms.specs.Ordering.{is_ordered}
 use Rattle.nf_row.specs.Laws.Tables.{row_is}
-use Rattle.nf_boundary.proofs.SeenLemmas.{passing}
 
 -- its row begins with a starter that composes with nothing before it
 pub row_boundary : (f : Form) (c first : ℕ) (rest : List ℕ) → decompose (kit_form f) c ≡ first ∷ rest → IsOwnBoundary ucd f first → NeverSecond ucd f first → HasBoundaryBefore ucd f c
@@ -22,10 +21,10 @@ table_row form c other first rest is = rw (other, is)
 module _ (f : Form) (first : Seen) (at : IsAtBoundary f first) (sound_one : (c : ℕ) → IsTrue (is_sound ucd c)) where
   -- a character that passes is its own form
   pub form_own : ((x : List ℕ) → IsSoundText ucd x) → ((c : ℕ) → IsTrue (passes_check f c) → IsOwnBoundary ucd f c)
-      → first.answer ≡ Yes → is_among halfwidth_marks first.character ≡ false → HasForm ucd f (first.character ∷ []) (first.character ∷ [])
-  form_own sound own_boundary own other =
+      → IsTrue (passes_check f first.character) → HasForm ucd f (first.character ∷ []) (first.character ∷ [])
+  form_own sound own_boundary passes =
       let c = first.character in
-      let span : IsSpan ucd f (c ∷ []) 0 max_row = (0, max_row, inl (begins_run ucd f c (own_boundary c (passing f first at.sees at.class own other)) (sound_one c)), (refl, refl)) in
+      let span : IsSpan ucd f (c ∷ []) 0 max_row = (0, max_row, inl (begins_run ucd f c (own_boundary c passes) (sound_one c)), (refl, refl)) in
       HasForm-span ucd f c [] 0 max_row span (sound (c ∷ []))
 
   -- and that of one that is taken apart is its row

@@ -1,6 +1,8 @@
 -- A character as one look-up sees it: what stands after it, and when a text may be cut before it.
-use Rattle.std.proofs.Common.{◌≡◌, ◌<◌, ◌||◌, ◌≤◌, ℕ, false, ◌∷◌, length, ap, arith, length-append, chars, IsTrue}
-use Rattle.nf_boundary.proofs.Common.{ucd, Sees, IsAtBoundary, Form, composes, Yes, Seen, chars_past_char, length-encode, len_utf8_bounds, canonical_combining_class, lead, or_parts, nat_tests, kit_form, quick_check, is_sound, HasBoundaryBefore, IsBoundary, IsOwnBoundary, is_among, halfwidth_marks, vowel_signs, passes_check, resets_count-lead, own_boundary-boundary, boundary-decomposing}
+use Rattle.std.proofs.Common.{◌≡◌, ◌<◌, ◌||◌, ◌≤◌, ℕ, false, List, ◌∷◌, ◌++◌, length, ap, arith, length-append, chars, IsTrue}
+use Rattle.nf_boundary.proofs.Common.{ucd, Sees, IsAtBoundary, Form, composes, Yes, Seen, chars_past_char, chars-append, IsUtf8, length-encode, len_utf8_bounds, canonical_combining_class, lead, or_parts, nat_tests, kit_form, quick_check, is_sound, HasBoundaryBefore, IsBoundary, IsOwnBoundary, is_among, halfwidth_marks, vowel_signs, passes_check, resets_count-lead, own_boundary-boundary, boundary-decomposing}
+use Rattle.nf_entry.specs.Entry.{IsOfFirst}
+use Rattle.nf_entry.specs.declared.entry.Entry.{Entry}
 use Rattle.unicode_normalization.proofs.FormsLemmas.{is_yes-true}
 
 -- what passes is a starter of which the quick check says yes
@@ -11,7 +13,7 @@ module _ (f : Form) (c : ℕ) (passes : IsTrue (passes_check f c)) where
   pub passes_yes : quick_check (kit_form f) c ≡ Yes
   passes_yes = is_yes-true _ (grind arith)
 
-module _ (f : Form) (seen : Seen) (here : Sees f seen) where
+module _ (seen : Seen) (here : Sees seen) where
   pub chars-seen : chars seen.text.now ≡ seen.character ∷ chars seen.after.now
   chars-seen = chars_past_char _ _ _ here.text_utf8 here.text
 
@@ -20,16 +22,17 @@ module _ (f : Form) (seen : Seen) (here : Sees f seen) where
   shorter next is =
       omega (arith, ap length is, ap length here.text, length-append {A = ℕ}, length-encode, (len_utf8_bounds seen.character).0)
 
-  pub passing : seen.class ≡ 0 → seen.answer ≡ Yes → is_among halfwidth_marks seen.character ≡ false → IsTrue (passes_check f seen.character)
-  passing class is other = grind (arith, nat_tests)
+pub passing : (f : Form) (c : ℕ) → canonical_combining_class c ≡ 0 → quick_check (kit_form f) c ≡ Yes → is_among halfwidth_marks c ≡ false → IsTrue (passes_check f c)
+passing f c class is other = grind (arith, nat_tests)
 
-  module _ (sound : (c : ℕ) → IsTrue (is_sound ucd c)) (class : seen.class ≡ 0) (plain : (is_among halfwidth_marks seen.character || is_among vowel_signs seen.character) ≡ false) where
+module _ (f : Form) (seen : Seen) (here : Sees seen) where
+  module _ (sound : (c : ℕ) → IsTrue (is_sound ucd c)) (class : canonical_combining_class seen.character ≡ 0) (plain : (is_among halfwidth_marks seen.character || is_among vowel_signs seen.character) ≡ false) where
     at : IsBoundary ucd f seen.character → IsAtBoundary f seen
     at boundary = record { sees = here; boundary = boundary; sound = sound seen.character; class = class }
 
     -- in a form that composes
-    pub boundary_composing : ((c : ℕ) → IsTrue (passes_check f c) → IsOwnBoundary ucd f c) → seen.answer ≡ Yes → IsAtBoundary f seen
-    boundary_composing own_boundary is = at (own_boundary-boundary ucd f seen.character (own_boundary seen.character (passing class is (or_parts _ _ plain).0)))
+    pub boundary_composing : ((c : ℕ) → IsTrue (passes_check f c) → IsOwnBoundary ucd f c) → quick_check (kit_form f) seen.character ≡ Yes → IsAtBoundary f seen
+    boundary_composing own_boundary is = at (own_boundary-boundary ucd f seen.character (own_boundary seen.character (passing f seen.character class is (or_parts _ _ plain).0)))
 
     module _ (begins : (c : ℕ) → canonical_combining_class c ≡ 0 → is_among vowel_signs c ≡ false → is_among halfwidth_marks c ≡ false → lead ucd (ucd.compat c) ≡ 0) where
       -- where it is changed, by its decomposition
@@ -41,6 +44,10 @@ module _ (f : Form) (seen : Seen) (here : Sees f seen) where
       boundary_apart apart = at (boundary-decomposing ucd f apart seen.character (sound seen.character) (grind (arith, begins seen.character)))
 
   -- where it is a leading consonant of Hangul
-  pub boundary_leading : ((c : ℕ) → IsTrue (is_sound ucd c)) → ((c : ℕ) → IsTrue (passes_check f c) → IsOwnBoundary ucd f c) → 0x1100 ≤ seen.character → seen.character < 0x1113 → seen.class ≡ 0 → seen.answer ≡ Yes
+  pub boundary_leading : ((c : ℕ) → IsTrue (is_sound ucd c)) → ((c : ℕ) → IsTrue (passes_check f c) → IsOwnBoundary ucd f c) → 0x1100 ≤ seen.character → seen.character < 0x1113 → canonical_combining_class seen.character ≡ 0 → quick_check (kit_form f) seen.character ≡ Yes
       → IsAtBoundary f seen
   boundary_leading sound own_boundary low high class is = boundary_composing sound class (grind (arith, nat_tests)) own_boundary is
+
+-- a text begins as its front does
+pub first_of_front : (front rest : List ℕ) (entry : Entry) → IsUtf8 front → IsOfFirst front entry → IsOfFirst (front ++ rest) entry
+first_of_front front rest entry u here = record { first = here.first; others = here.others ++ chars rest; begins = rw (chars-append front rest u, here.begins); is_entry = here.is_entry }

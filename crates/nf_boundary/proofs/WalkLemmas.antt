@@ -19,7 +19,7 @@ module _ (p : Properties) (first : ℕ) (marks : List Mark) where
   mark_at m i mark same below read = rw (same, get_or-map (mark_of p) m i 0 mark (omega (arith, ap length same, length-map m (mark_of p)))) at read
 
   module _ (i highest starter : ℕ) (text : List ℕ) (w : Walks p first marks i highest starter text) (below : i < length marks) (mark : Mark) (read : mark ≡ get_or marks i mark)
-      (o : Option ℕ) (joins : o ≡ (if blocks highest mark.class then None else composite p starter mark.character)) where
+      (o : Option ℕ) (joins : p.class mark.character ≡ mark.class → o ≡ (if blocks highest mark.class then None else composite p starter mark.character)) where
     within : (m : List ℕ) → marks ≡ map (mark_of p) m → i < length m
     within m same = omega (arith, below, ap length same, length-map m (mark_of p))
 
@@ -30,7 +30,8 @@ module _ (p : Properties) (first : ℕ) (marks : List Mark) where
     -- what it becomes with what stands there
     next : (m : List ℕ) → marks ≡ map (mark_of p) m → has_starter p m ≡ false → fold (join p) (first ∷ []) (take (i + 1) m) ≡ replaced o starter w.left mark.character
     next m same plain =
-        rw (take_more m i 0 (within m same), fold-append (join p), w.made m same plain, w.blocked m same plain _, joins, mark_at m i mark same below read)
+        let at = mark_at m i mark same below read in
+        rw (take_more m i 0 (within m same), fold-append (join p), w.made m same plain, w.blocked m same plain _, joins (rw at), at)
 
     pub walks_joined : (d : ℕ) → o ≡ Some d → Walks p first marks (i + 1) highest d text
     walks_joined d is = record { left = w.left; text_is = w.text_is; room = omega (arith, w.room); made = λ m same plain. rw is at (next m same plain); blocked = w.blocked }

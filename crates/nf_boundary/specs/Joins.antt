@@ -30,6 +30,6 @@ pub record Gathers (f : Form) (first next : Seen) (cluster : Cluster) (old new :
   pub done : List ℕ
   pub split : first.text.now ≡ encode_utf8_all front ++ next.text.now
   pub begins : BeginsAtBoundary ucd f front
-  pub sees : Sees f next
+  pub sees : Sees next
   pub formed : new ≡ old ++ encode_utf8_all done
   pub made : AreMadeOf done front cluster

@@ -38,4 +38,4 @@ pub record Fills (f : Form) (first next : Seen) (piece : Piece) (before now : Li
   pub begins : BeginsAtBoundary ucd f front
   pub becomes : Becomes f (decomposed f ucd front) piece.starter piece.run.items before now
   pub leaves : Leaves front piece.room
-  pub sees : Sees f next
+  pub sees : Sees next

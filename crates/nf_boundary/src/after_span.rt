@@ -23,6 +23,9 @@ pub(crate) fn boundary_after<'t>(form: Form, text: &'t str, near: SpanText<'t>) 
     }
     let span = near.split();
     let (_, rest) = text.split_at(span.settled.len());
-    let next = Seen::boundary(form, rest)?;
+    let next = Seen::known_first(rest, span.known?)?;
+    if !next.is_boundary(form) {
+        return None;
+    }
     Some(next)
 }

@@ -9,7 +9,6 @@ use crate::seen::Seen;
 use crate::segments::Formed;
 use nf_facts::{in_tables, laws};
 use nf_forms::Form;
-use ucd_normal::QuickCheck;
 use unicode_normalization::char::decomposition;
 
 /// Appends what a text becomes from its first character on, as far as it is taken apart; answers the last boundary.
@@ -37,7 +36,7 @@ fn take_apart<'t>(form: Form, first: Seen<'t>, formed: &mut Formed) -> Option<Se
 {
     laws::every_character_is_sound();
     laws::rows_are_ordered();
-    if first.answer == QuickCheck::Yes {
+    if first.known.is_yes(form) {
         return take_kept(form, first, formed);
     }
     let next = Seen::boundary(form, first.after)?;

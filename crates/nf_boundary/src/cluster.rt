@@ -1,13 +1,12 @@
 use crate::closing::joined;
 use crate::encoding::{put_character, put_utf8};
 use crate::mark::Mark;
-use crate::seen::{Seen, is_own_row};
+use crate::seen::Seen;
 use crate::segments::Formed;
 use arrayvec::ArrayVec;
 use nf_facts::laws;
 use nf_forms::{Form, MAX_RUN};
 use nf_row::Ucd;
-use ucd_normal::QuickCheck;
 use unicode_normalization::char::compose;
 
 /// So many bytes has a cluster at most.
@@ -92,20 +91,20 @@ impl Cluster {
     /// not compose, what the cluster has become is appended, and the next one begins.
     #[inline(always)]
     pub fn join(&mut self, form: Form, seen: Seen<'_>, formed: &mut Formed) -> Option<()>
-        requires { Sees form seen }
+        requires { Sees seen }
         ensures joins { IsSome result → Joins seen.entry.character self.old self.new formed.old.items formed.new.items }
         ensures stays { IsNone result → formed.new ≡ formed.old }
     {
         laws::the_quick_check_tells();
         laws::what_passes_in_nfkd_is_its_own_row();
-        if seen.answer == QuickCheck::No || self.count >= MAX_RUN || !self.may_follow(seen) {
-            return None;
-        }
         let mark = Mark {
             character: seen.character,
-            class: seen.class,
+            class: seen.known.class(),
         };
-        match joined(&Ucd, self.starter, self.highest, mark, true) {
+        if seen.known.is_no(form) || self.count >= MAX_RUN || !self.may_follow(seen, mark.class) {
+            return None;
+        }
+        match joined(&Ucd, self.starter, self.highest, mark) {
             Some(composite) => self.starter = composite,
             None if mark.class == 0 => {
                 self.append_to(formed)?;
@@ -126,13 +125,14 @@ impl Cluster {
 
     /// A starter that is its own decomposition, or a mark of no smaller class than the last.
     #[inline(always)]
-    fn may_follow(&self, seen: Seen<'_>) -> bool
-        ensures { IsTrue result → (seen.entry.class ≡ 0 → quick_check Nfkd seen.entry.character ≡ Yes) × ((self.now.last ≤ seen.entry.class) ⊎ (seen.entry.class ≡ 0)) }
+    fn may_follow(&self, seen: Seen<'_>, class: u8) -> bool
+        requires { Sees seen }
+        ensures { IsTrue result → (class ≡ 0 → quick_check Nfkd seen.entry.character ≡ Yes) × ((self.now.last ≤ class) ⊎ (class ≡ 0)) }
     {
-        if seen.class == 0 {
-            is_own_row(seen.character)
+        if class == 0 {
+            seen.known.is_yes(Form::Nfkd)
         } else {
-            seen.class >= self.last
+            class >= self.last
         }
     }
 

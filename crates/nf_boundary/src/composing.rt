@@ -6,7 +6,7 @@ ghost use Rattle.nf_boundary.specs.Pieces.{Closes, Reaches};
 use crate::cluster::Cluster;
 use crate::hangul::take_syllable;
 use crate::lone::take_run;
-use crate::seen::{Seen, is_own_row, may_begin_with_mark};
+use crate::seen::{Seen, may_begin_with_mark};
 use crate::segments::Formed;
 use nf_facts::laws;
 use nf_forms::Form;
@@ -80,19 +80,19 @@ fn append_clusters<'t>(form: Form, first: Seen<'t>, formed: &mut Formed) -> Opti
     ensures keeps { IsNone result → take (length formed.old.items) formed.new.items ≡ formed.old.items }
 {
     laws::every_character_is_sound();
-    if !is_own_row(first.character) {
+    if !first.known.is_yes(Form::Nfkd) {
         return None;
     }
     let length = formed.len();
     let mut cluster = Cluster::new(first.character);
     let after = cluster.join_letters(first.after);
-    let mut next = Seen::first(form, after)?;
+    let mut next = Seen::first(after)?;
     while !next.is_boundary(form) {
         cluster.join(form, next, formed)?;
-        next = Seen::first(form, next.after)?;
+        next = Seen::first(next.after)?;
     }
     // After others that is a span, most likely, but between two that compose it need not be sought as such.
-    if length > 0 && formed.len() == length && cluster.is_as_it_was() && !next.goes_on(form) {
+    if length > 0 && formed.len() == length && cluster.is_as_it_was() && !next.goes_on() {
         return None;
     }
     cluster.append_to(formed)?;

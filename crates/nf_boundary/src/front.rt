@@ -1,9 +1,11 @@
 ghost use Rattle.std.specs.Prelude.{◌≡◌, ℕ, List, IfSome};
 ghost use Rattle.nf_forms.specs.Ucd.{ucd};
+ghost use Rattle.nf_entry.specs.Entry.{IsOfFirst};
 ghost use Rattle.nf_boundary.specs.Front.{IsFirstSegments};
 ghost use Rattle.nf_boundary.specs.Seen.{Sees, IsAtBoundary};
 ghost use Rattle.nf_boundary.specs.Rows.{IsRow};
 ghost use Rattle.nf_boundary.specs.Pieces.{Closes, Reaches};
+ghost use Rattle.nf_boundary.specs.Stands.{Stands};
 
 use crate::after_span::boundary_after;
 use crate::apart::take_front_apart;
@@ -12,31 +14,28 @@ use crate::pieces::take_pieces;
 use crate::rows::{Row, changed};
 use crate::seen::{Seen, may_begin_with_mark};
 use crate::segments::{Formed, Segments};
+use nf_entry::Entry;
 use nf_forms::Form;
-use nf_row::Rows;
 use nf_span::span_text;
-use ucd_normal::QuickCheck;
 
 /// Segments that the text begins with, as far as they are known: a span, and after it characters that the form changes, until
 /// a span comes again or `formed` is full. Their form is put into `formed`, in place of what it holds. Nothing where none
-/// is found, as where no boundary comes; of data that is not known to be Unicode's nothing is known.
+/// is found, as where no boundary comes. `known` is the entry of the first character, in Unicode's data.
 #[inline(never)]
-pub fn first_segments<'t, R: Rows>(
-    rows: &R,
+pub fn first_segments<'t>(
     form: Form,
     text: &'t str,
+    known: Entry,
     formed: &mut Formed,
 ) -> Option<Segments<'t>>
-    ensures { IfSome result (λ segments. IsFirstSegments (R.properties rows.now) form text.now segments.same.now formed.new.items segments.rest.now) }
+    requires { IsOfFirst text.now known }
+    ensures { IfSome result (λ segments. IsFirstSegments ucd form text.now segments.same.now formed.new.items segments.rest.now) }
 {
-    if !rows.is_ucd() {
-        return None;
-    }
-    let seen = Seen::first(form, text)?;
+    let seen = Seen::known_first(text, known)?;
     if !seen.is_boundary(form) {
         return changed_front(form, seen, formed);
     }
-    let first = boundary_after(form, text, span_text(form, text))?;
+    let first = boundary_after_span(form, seen)?;
     let (same, _) = text.split_at(text.len() - first.text.len());
     formed.clear();
     let next = take_changed(form, first, formed);
@@ -52,6 +51,18 @@ pub fn first_segments<'t, R: Rows>(
         members: &[],
     };
     take_front(form, text, same, plain, formed)
+}
+
+/// The boundary after the span that a text begins with: the first character, where that does not pass.
+#[inline(always)]
+fn boundary_after_span<'t>(form: Form, first: Seen<'t>) -> Option<Seen<'t>>
+    requires { IsAtBoundary form first }
+    ensures { IfSome result (λ next. Stands form first.entry.text.now next) }
+{
+    if !first.known.passes(form) {
+        return Some(first);
+    }
+    boundary_after(form, first.text, span_text(form, first.text))
 }
 
 /// Appends what a text becomes from its first character on, until a span comes again; answers the last boundary.
@@ -74,12 +85,10 @@ fn goes_on_as_span(form: Form, next: Seen<'_>, is_after_changed: bool) -> bool {
     if !may_begin_with_mark(next.after) {
         return true;
     }
-    match Seen::first(form, next.after) {
+    match Seen::first(next.after) {
         Some(after) => {
             next.is_span_before(form, after)
-                || is_after_changed
-                    && next.answer == QuickCheck::Yes
-                    && after.answer == QuickCheck::Yes
+                || is_after_changed && next.known.is_yes(form) && after.known.is_yes(form)
         }
         None => true,
     }
@@ -88,7 +97,7 @@ fn goes_on_as_span(form: Form, next: Seen<'_>, is_after_changed: bool) -> bool {
 /// Segments of a text that begins with a character that the form changes, where its decomposition tells that a text
 /// may be cut before it.
 fn changed_front<'t>(form: Form, seen: Seen<'t>, formed: &mut Formed) -> Option<Segments<'t>>
-    requires { Sees form seen }
+    requires { Sees seen }
     ensures { IfSome result (λ segments. IsFirstSegments ucd form seen.entry.text.now segments.same.now formed.new.items segments.rest.now) }
 {
     let first = changed(form, seen)?;

@@ -7,10 +7,9 @@ use crate::after_span::boundary_after;
 use crate::encoding::append_one;
 use crate::seen::Seen;
 use crate::segments::Formed;
-use nf_facts::{is_halfwidth_mark, laws};
+use nf_facts::laws;
 use nf_forms::Form;
 use nf_span::near_text;
-use ucd_normal::QuickCheck;
 
 /// Appends what the form leaves as it is, and answers what follows: a character before one that is changed, a span
 /// that ends soon, or a character of which its bytes do not tell that a span goes on with it, before ASCII.
@@ -21,7 +20,7 @@ pub(crate) fn take_kept<'t>(form: Form, first: Seen<'t>, formed: &mut Formed) ->
     ensures stays { IsNone result → formed.new ≡ formed.old }
 {
     let next = Seen::boundary(form, first.after)?;
-    if next.answer == QuickCheck::Yes {
+    if next.known.is_yes(form) {
         if let Some(after) = take_run(form, first.text, formed) {
             return Some(after);
         }
@@ -40,7 +39,7 @@ pub(crate) fn take_run<'t>(form: Form, text: &'t str, formed: &mut Formed) -> Op
     ensures stays { IsNone result → formed.new ≡ formed.old }
 {
     let next = boundary_after(form, text, near_text(form, text)?)?;
-    if !form.composes() && next.answer == QuickCheck::Yes {
+    if !form.composes() && next.known.is_yes(form) {
         return None;
     }
     let (run, _) = text.split_at(text.len() - next.text.len());
@@ -62,7 +61,7 @@ fn take_own(form: Form, first: Seen<'_>, next: Seen<'_>, formed: &mut Formed) ->
 {
     laws::every_character_is_sound();
     laws::the_quick_check_tells();
-    if first.answer != QuickCheck::Yes || is_halfwidth_mark(first.character) {
+    if !first.known.passes(form) {
         return None;
     }
     append_one(formed, first.character)

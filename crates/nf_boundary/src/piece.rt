@@ -11,13 +11,13 @@ ghost use Rattle.nf_boundary.specs.Piece.{Becomes, Leaves};
 use crate::closing::{Segment, close_off};
 use crate::encoding::{append_one, put_utf8};
 use crate::mark::{Mark, Run, hold};
-use crate::rows::{Row, passes};
-use crate::seen::{Seen, is_own_row};
+use crate::rows::Row;
+use crate::seen::{Seen, look_up_member};
 use crate::segments::Formed;
+use nf_entry::Entry;
 use nf_facts::{in_tables, laws};
 use nf_forms::{Form, MAX_RUN};
 use nf_row::Ucd;
-use ucd_normal::{QuickCheck, canonical_combining_class};
 use unicode_normalization::char::decomposition;
 
 /// So many may stand after any character, whose compatibility decomposition has at most 18 members.
@@ -61,7 +61,7 @@ impl Piece {
         self.starter = first.seen.character;
         self.run.clear();
         self.room = MAX_RUN;
-        if first.members.is_empty() && is_own_row(first.seen.character) {
+        if first.members.is_empty() && first.seen.known.is_yes(Form::Nfkd) {
             return Some(());
         }
         let mut place = [first.seen.character; 3];
@@ -82,13 +82,9 @@ impl Piece {
         ensures stays { IsNone result → formed.new ≡ formed.old }
     {
         laws::the_quick_check_tells();
-        if !passes(form, member) {
-            self.room = hold_one(
-                &mut self.run,
-                self.room,
-                member,
-                canonical_combining_class(member),
-            )?;
+        let known = look_up_member(member);
+        if !known.passes(form) {
+            self.room = hold_one(&mut self.run, self.room, member, known.class())?;
             return Some(());
         }
         self.close(form, formed)?;
@@ -100,13 +96,14 @@ impl Piece {
     /// A character more that is a non-starter, or decomposes to non-starters.
     #[inline(always)]
     pub fn join(&mut self, form: Form, seen: Seen<'_>) -> Option<()>
-        requires { Sees form seen }
+        requires { Sees seen }
         ensures becomes { IsSome result → (w before now : List ℕ) → Becomes form w self.old.starter self.old.run.items before now → Becomes form (w ++ row_of form ucd seen.entry.character) self.new.starter self.new.run.items before now }
         ensures leaves { IsSome result → (cs : List ℕ) → Leaves cs self.old.room → Leaves (cs ++ seen.entry.character ∷ []) self.new.room }
     {
         laws::the_quick_check_tells();
-        if seen.class != 0 && seen.answer != QuickCheck::No {
-            self.room = hold_one(&mut self.run, self.room, seen.character, seen.class)?;
+        let class = seen.known.class();
+        if class != 0 && !seen.known.is_no(form) {
+            self.room = hold_one(&mut self.run, self.room, seen.character, class)?;
             return Some(());
         }
         self.room = hold_row(form, &mut self.run, self.room, seen.character)?;
@@ -166,7 +163,7 @@ fn hold_row(form: Form, run: &mut Run, room: u8, c: char) -> Option<u8>
     let mut left = room;
     let members = decomposition(c, in_tables(form), &mut place);
     for member in members {
-        left = hold_one(run, left, *member, canonical_combining_class(*member))?;
+        left = hold_one(run, left, *member, Entry::of(*member).class())?;
     }
     Some(left)
 }

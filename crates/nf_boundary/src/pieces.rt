@@ -6,7 +6,7 @@ use crate::piece::Piece;
 use crate::rows::Row;
 use crate::seen::Seen;
 use crate::segments::Formed;
-use nf_facts::{begins_with_mark, laws};
+use nf_facts::laws;
 use nf_forms::Form;
 
 /// Where more bytes than this are there, the next piece is left for another front: it may have no room, and would then have
@@ -79,14 +79,14 @@ fn append_piece<'t>(
     ensures keeps { IsNone result → take (length formed.old.items) formed.new.items ≡ formed.old.items }
 {
     laws::every_character_is_sound();
-    let mut next = Seen::first(form, first.seen.after)?;
+    let mut next = Seen::first(first.seen.after)?;
     if first.seen.is_span_before(form, next) {
         return None;
     }
     piece.begin(form, first, formed)?;
-    while next.class != 0 || begins_with_mark(next.character) {
+    while next.known.class() != 0 || next.known.begins_with_mark() {
         piece.join(form, next)?;
-        next = Seen::first(form, next.after)?;
+        next = Seen::first(next.after)?;
     }
     let after = Row::at(form, next)?;
     piece.close(form, formed)?;

@@ -4,16 +4,13 @@ ghost use Rattle.unicode_normalization.specs.Hangul.{is_syllable};
 ghost use Rattle.nf_forms.specs.Forms.{row_of};
 ghost use Rattle.nf_forms.specs.Ucd.{ucd};
 ghost use Rattle.nf_facts.specs.KitForm.{kit_form};
-ghost use Rattle.nf_facts.specs.Passing.{passes_check};
 ghost use Rattle.nf_boundary.specs.Seen.{Sees};
 ghost use Rattle.nf_boundary.specs.Rows.{IsRow};
 
-use crate::seen::{Seen, is_plain};
-use nf_facts::{begins_with_mark, in_tables, is_halfwidth_mark, laws};
+use crate::seen::{Seen, look_up_member};
+use nf_facts::{in_tables, laws};
 use nf_forms::Form;
-use ucd_normal::{
-    QuickCheck, canonical_decomposition, class_and_quick_check, compatibility_decomposition,
-};
+use ucd_normal::{canonical_decomposition, compatibility_decomposition};
 use unicode_normalization::char::decomposition;
 
 /// A character before which a text may be cut, with its decomposition, so that this is looked up once.
@@ -28,7 +25,7 @@ impl<'t> Row<'t> {
     /// The character, where a text may be cut before it, as one look-up tells, or its decomposition.
     #[inline(always)]
     pub fn at(form: Form, seen: Seen<'t>) -> Option<Row<'t>>
-        requires { Sees form seen }
+        requires { Sees seen }
         ensures seen { IfSome result (λ row. row.seen ≡ seen.entry) }
         ensures row { IfSome result (λ row. IsRow form row) }
     {
@@ -56,19 +53,20 @@ impl<'t> Row<'t> {
 /// the quick check, and so composes with nothing before it.
 #[inline(always)]
 pub(crate) fn changed<'t>(form: Form, seen: Seen<'t>) -> Option<Row<'t>>
-    requires { Sees form seen }
+    requires { Sees seen }
     ensures seen { IfSome result (λ row. row.seen ≡ seen.entry) }
     ensures row { IfSome result (λ row. IsRow form row) }
 {
     laws::every_character_is_sound();
     laws::exceptions_are_few();
     laws::the_quick_check_tells();
-    if seen.class != 0 || seen.answer != QuickCheck::No || begins_with_mark(seen.character) {
+    let known = seen.known;
+    if known.class() != 0 || !known.is_no(form) || known.begins_with_mark() {
         return None;
     }
     let members = members(form, seen.character);
     let (first, _) = members.split_first()?;
-    if !passes(form, *first) {
+    if !look_up_member(*first).passes(form) {
         return None;
     }
     Some(Row { seen, members })
@@ -103,16 +101,4 @@ const fn is_syllable(c: char) -> bool
     ensures { result ≡ is_syllable c }
 {
     matches!(c, '\u{AC00}'..='\u{D7A3}')
-}
-
-/// Whether `c` is a starter that passes the quick check.
-#[inline(always)]
-pub(crate) fn passes(form: Form, c: char) -> bool
-    ensures { result ≡ passes_check form c }
-{
-    if is_plain(c) {
-        return true;
-    }
-    let (class, answer) = class_and_quick_check(c, in_tables(form));
-    class == 0 && answer == QuickCheck::Yes && !is_halfwidth_mark(c)
 }

@@ -1,16 +1,11 @@
-ghost use Rattle.std.specs.Prelude.{◌≡◌, ◌↔◌, IsTrue};
-ghost use Rattle.ucd_normal.specs.declared.forms.Form.TheVariants.{Nfkd};
-ghost use Rattle.ucd_normal.specs.declared.forms.QuickCheck.TheVariants.{Yes};
-ghost use Rattle.ucd_normal.specs.CanonicalCombiningClass.{canonical_combining_class};
-ghost use Rattle.ucd_normal.specs.QuickCheck.{quick_check};
+ghost use Rattle.std.specs.Prelude.{◌≡◌, IsTrue};
 ghost use Rattle.nf_forms.specs.declared.form.Form.{Form};
-ghost use Rattle.nf_forms.specs.Forms.{composes};
-ghost use Rattle.nf_facts.specs.KitForm.{kit_form};
 ghost use Rattle.nf_facts.specs.Passing.{passes_check};
+ghost use Rattle.nf_entry.specs.Entry.{IsEntry};
 
-use nf_facts::{begins_with_mark, in_tables, laws};
+use nf_entry::Entry;
+use nf_facts::laws;
 use nf_forms::Form;
-use ucd_normal::{Form as TableForm, QuickCheck, class_and_quick_check, quick_check};
 
 /// The first character of a text, as one look-up sees it.
 #[derive(Clone, Copy)]
@@ -18,28 +13,42 @@ pub(crate) struct Seen<'t> {
     /// The text that it begins.
     pub text: &'t str,
     pub character: char,
-    pub class: u8,
-    pub answer: QuickCheck,
+    pub known: Entry,
     /// What stands after it.
     pub after: &'t str,
 }
 
 impl<'t> Seen<'t> {
     ghost use Rattle.std.specs.Prelude.{IsTrue, IfSome};
+    ghost use Rattle.nf_entry.specs.Entry.{IsOfFirst};
     ghost use Rattle.nf_boundary.specs.Seen.{Sees, IsAtBoundary};
 
     #[inline(always)]
-    pub fn first(form: Form, text: &'t str) -> Option<Seen<'t>>
-        ensures { IfSome result (λ seen. (seen.text.now ≡ text.now) × Sees form seen) }
+    pub fn first(text: &'t str) -> Option<Seen<'t>>
+        ensures { IfSome result (λ seen. (seen.text.now ≡ text.now) × Sees seen) }
     {
         let mut chars = text.chars();
         let character = chars.next()?;
-        let (class, answer) = look_up(form, character);
         Some(Seen {
             text,
             character,
-            class,
-            answer,
+            known: look_up(character),
+            after: chars.as_str(),
+        })
+    }
+
+    /// The same, where its entry is at hand: with no look-up.
+    #[inline(always)]
+    pub fn known_first(text: &'t str, known: Entry) -> Option<Seen<'t>>
+        requires { IsOfFirst text.now known }
+        ensures { IfSome result (λ seen. (seen.text.now ≡ text.now) × Sees seen) }
+    {
+        let mut chars = text.chars();
+        let character = chars.next()?;
+        Some(Seen {
+            text,
+            character,
+            known,
             after: chars.as_str(),
         })
     }
@@ -49,7 +58,7 @@ impl<'t> Seen<'t> {
     pub fn boundary(form: Form, text: &'t str) -> Option<Seen<'t>>
         ensures { IfSome result (λ seen. (seen.text.now ≡ text.now) × IsAtBoundary form seen) }
     {
-        let seen = Seen::first(form, text)?;
+        let seen = Seen::first(text)?;
         if !seen.is_boundary(form) {
             return None;
         }
@@ -73,8 +82,7 @@ impl<'t> Seen<'t> {
         Some(Seen {
             text,
             character,
-            class: 0,
-            answer: QuickCheck::Yes,
+            known: Entry::of_passing(character),
             after: chars.as_str(),
         })
     }
@@ -88,15 +96,15 @@ impl<'t> Seen<'t> {
     /// Whether it composes with what comes after it, by all that is likely: a leading consonant of Hangul, or a character
     /// with a mark after it.
     #[inline(always)]
-    pub fn goes_on(self, form: Form) -> bool {
+    pub fn goes_on(self) -> bool {
         if self.is_leading() {
             return true;
         }
         if !may_begin_with_mark(self.after) {
             return false;
         }
-        match Seen::first(form, self.after) {
-            Some(next) => next.class != 0,
+        match Seen::first(self.after) {
+            Some(next) => next.known.class() != 0,
             None => false,
         }
     }
@@ -104,47 +112,57 @@ impl<'t> Seen<'t> {
     /// Whether it is left as it is, and so is the one after it, before which a text may be cut.
     #[inline(always)]
     pub fn is_span_before(self, form: Form, next: Seen<'_>) -> bool
-        requires { Sees form next }
+        requires { Sees next }
     {
-        self.answer == QuickCheck::Yes && next.answer == QuickCheck::Yes && next.is_boundary(form)
+        self.known.is_yes(form) && next.known.is_yes(form) && next.is_boundary(form)
     }
 
     /// Whether one look-up tells that a text may be cut before it: a starter whose compatibility decomposition begins with
     /// a starter, and which in a form that composes passes the quick check.
     #[inline(always)]
     pub fn is_boundary(self, form: Form) -> bool
-        requires { Sees form self }
+        requires { Sees self }
         ensures { IsTrue result → IsAtBoundary form self.entry }
     {
         laws::every_character_is_sound();
         laws::exceptions_are_few();
         laws::the_quick_check_tells();
-        if self.class != 0 {
+        if self.known.class() != 0 {
             return false;
         }
-        if begins_with_mark(self.character) {
+        if self.known.begins_with_mark() {
             return false;
         }
-        !form.composes() || self.answer == QuickCheck::Yes
+        !form.composes() || self.known.is_yes(form)
     }
 }
 
-/// The class and the answer of the quick check: of ASCII with no look-up.
+/// The entry of `c`: of ASCII with no look-up.
 #[inline(always)]
-fn look_up(form: Form, c: char) -> (u8, QuickCheck)
-    ensures class { result.0 ≡ canonical_combining_class c }
-    ensures answer { result.1 ≡ quick_check (kit_form form) c }
+fn look_up(c: char) -> Entry
+    ensures { IsEntry c result }
 {
     if c < '\u{80}' && is_plain(c) {
-        return (0, QuickCheck::Yes);
+        return Entry::of_passing(c);
     }
-    class_and_quick_check(c, in_tables(form))
+    Entry::of(c)
+}
+
+/// The same of a member of a decomposition: of most with no look-up.
+#[inline(always)]
+pub(crate) fn look_up_member(c: char) -> Entry
+    ensures { IsEntry c result }
+{
+    if is_plain(c) {
+        return Entry::of_passing(c);
+    }
+    Entry::of(c)
 }
 
 /// Whether it shows with no look-up that `c` passes, in each form: in ASCII, and among the letters of Arabic and of Han, of
 /// which most decompositions are made.
 #[inline(always)]
-pub(crate) fn is_plain(c: char) -> bool
+fn is_plain(c: char) -> bool
     ensures { IsTrue result → (f : Form) → IsTrue (passes_check f c) }
 {
     laws::plain_ranges_pass();
@@ -166,12 +184,4 @@ pub(crate) fn may_begin_with_mark(text: &str) -> bool {
         0xE3 => bytes[1] == 0x80 || bytes[1] == 0x82,
         _ => true,
     }
-}
-
-/// Whether `c` passes the quick check of NFKD (UAX #15, section 9), so that it decomposes no further, in any form.
-#[inline(always)]
-pub(crate) fn is_own_row(c: char) -> bool
-    ensures { IsTrue result ↔ (quick_check Nfkd c ≡ Yes) }
-{
-    is_plain(c) || quick_check(c, TableForm::Nfkd) == QuickCheck::Yes
 }

@@ -1,8 +1,7 @@
 //! Texts whose segments were found by hand, from UnicodeData.txt and DerivedNormalizationProps.txt.
-use crate::reference::{checked, text_of};
-use nf_boundary::{Formed, first_segments};
+use crate::reference::{checked, segments_of, text_of};
+use nf_boundary::Formed;
 use nf_forms::Form;
-use nf_row::Ucd;
 use std::alloc::Global;
 use std::process::Abort;
 use std::test::Fail;
@@ -22,7 +21,7 @@ pub(crate) fn check<T: Abort>(
     for (same, changed, formed, rest) in fronts {
         let text = format!(in alloc; "{same}{changed}{rest}")?;
         let mut put = Formed::new();
-        let segments = first_segments(&Ucd, form, &text, &mut put);
+        let segments = segments_of(form, &text, &mut put);
         assert!(rt; segments.is_some(), "{form:?}: {text:?}");
         if let Some(segments) = segments {
             assert_eq!(rt;
@@ -37,7 +36,7 @@ pub(crate) fn check<T: Abort>(
 }
 
 pub(crate) fn is_none(form: Form, text: &str) -> bool {
-    first_segments(&Ucd, form, text, &mut Formed::new()).is_none()
+    segments_of(form, text, &mut Formed::new()).is_none()
 }
 
 pub(crate) fn check_none<T: Abort>(rt: &T, form: Form, texts: &[&str]) {

@@ -1,8 +1,7 @@
 //! All Hangul syllables, by the arithmetic of The Unicode Standard, section 3.12.
-use crate::reference::text_of;
-use nf_boundary::{Formed, first_segments};
+use crate::reference::{segments_of, text_of};
+use nf_boundary::Formed;
 use nf_forms::Form;
-use nf_row::Ucd;
 use std::test::Fail;
 
 const VOWELS: u32 = 21;
@@ -22,11 +21,11 @@ fn each_syllable_both_ways(rt: HostRuntime) -> Result<(), Fail> {
         }
         let mut formed = Formed::new();
         let text = format!(in rt.alloc(); "{letters}\u{1100}")?;
-        let segments = first_segments(&Ucd, Form::Nfc, &text, &mut formed);
+        let segments = segments_of(Form::Nfc, &text, &mut formed);
         assert!(rt; segments.is_some(), "{index}");
         assert_eq!(rt; text_of(&formed).chars().next(), Some(syllable), "{index}");
         let text = format!(in rt.alloc(); "{syllable}\u{1100}")?;
-        let segments = first_segments(&Ucd, Form::Nfd, &text, &mut formed);
+        let segments = segments_of(Form::Nfd, &text, &mut formed);
         assert!(rt; segments.is_some(), "{index}");
         assert_eq!(rt; text_of(&formed), letters.as_str(), "{index}");
     }

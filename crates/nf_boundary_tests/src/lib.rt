@@ -3,8 +3,6 @@
 #![tactic(auto)]
 
 #[cfg(test)]
-mod changed;
-#[cfg(test)]
 mod fronts;
 #[cfg(test)]
 mod hangul;

@@ -1,7 +1,7 @@
 //! Segments against the forms of whole texts.
-use nf_boundary::{Formed, first_segments};
+use nf_boundary::{Formed, Segments, first_segments};
+use nf_entry::Entry;
 use nf_forms::Form;
-use nf_row::Ucd;
 use std::alloc::{AllocError, Global};
 use std::process::Abort;
 use std::test::Fail;
@@ -26,6 +26,12 @@ pub fn text_of(put: &Formed) -> &str {
     std::str::from_utf8(put.as_slice()).unwrap_or("not UTF-8")
 }
 
+/// The segments that the text begins with, by the entry of its first character.
+pub fn segments_of<'t>(form: Form, text: &'t str, put: &mut Formed) -> Option<Segments<'t>> {
+    let first = text.chars().next()?;
+    first_segments(form, text, Entry::of(first), put)
+}
+
 /// What stands after the segments that the text begins with, if they are told: the front has the form that is said, and so has what
 /// stands before and after it, each alone.
 pub fn checked<'t, T: Abort>(
@@ -35,7 +41,7 @@ pub fn checked<'t, T: Abort>(
     text: &'t str,
 ) -> Result<Option<&'t str>, Fail> {
     let mut put = Formed::new();
-    let Some(segments) = first_segments(&Ucd, form, text, &mut put) else {
+    let Some(segments) = segments_of(form, text, &mut put) else {
         return Ok(None);
     };
     let front = text.strip_suffix(segments.rest).unwrap_or("");

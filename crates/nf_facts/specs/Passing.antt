@@ -23,6 +23,10 @@ vowel_signs = 0xF73 ∷ 0xF75 ∷ 0xF81 ∷ []
 abbrev pub mapped_marks : List ℕ
 mapped_marks = 0x340 ∷ 0x341 ∷ 0x343 ∷ 0x344 ∷ []
 
+-- those of all that compose with a character before them
+abbrev pub composing_classes : List ℕ
+composing_classes = 0 ∷ 1 ∷ 7 ∷ 8 ∷ 9 ∷ 91 ∷ 202 ∷ 216 ∷ 220 ∷ 230 ∷ 240 ∷ []
+
 abbrev pub is_yes : QuickCheck → Bool
 is_yes Yes = true
 is_yes _ = false

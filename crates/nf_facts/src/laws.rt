@@ -1,6 +1,6 @@
 //! Facts of Unicode's data, each the contract of a function without a body. `ucd` is that data, in the words of
 //! `nf_forms`; `kit_form` names a form as `unicode_normalization` does.
-ghost use Rattle.std.specs.Prelude.{◌≡◌, ◌≢◌, ◌<◌, ◌≤◌, ℕ, false, List, [], ◌∷◌, ◌++◌, ◌||◌, length, flat_map, IsTrue, Some};
+ghost use Rattle.std.specs.Prelude.{◌≡◌, ◌≢◌, ◌<◌, ◌≤◌, ℕ, false, List, [], ◌∷◌, ◌++◌, ◌||◌, length, flat_map, IsTrue, Some, None};
 ghost use Rattle.std.specs.Char.{IsScalar};
 ghost use Rattle.std.specs.List.{All};
 ghost use Rattle.std.specs.Str.{all_scalars};
@@ -31,7 +31,7 @@ ghost use Rattle.nf_forms.specs.Laws.Sound.{IsSoundText};
 ghost use Rattle.nf_facts.specs.KitForm.{kit_form};
 ghost use Rattle.nf_facts.specs.After.{after};
 ghost use Rattle.nf_facts.specs.LineFeed.{line_feed};
-ghost use Rattle.nf_facts.specs.Passing.{is_among, halfwidth_marks, vowel_signs, mapped_marks, passes_check};
+ghost use Rattle.nf_facts.specs.Passing.{is_among, halfwidth_marks, vowel_signs, mapped_marks, composing_classes, passes_check};
 ghost use Rattle.nf_facts.specs.Plain.{IsPlain};
 ghost use Rattle.nf_facts.specs.PlainRanges.{plain_ranges};
 
@@ -163,6 +163,12 @@ pub fn what_passes_in_nfkd_is_its_own_row()
 #[inline]
 pub fn each_pair_has_a_primary_composite()
     ensures { (a b : ℕ) → composite ucd a b ≡ ucd.pair a b }
+{}
+
+/// What composes with a character before it is of one of eleven classes, 0 among them.
+#[inline]
+pub fn few_classes_compose()
+    ensures { (a c : ℕ) → is_among composing_classes (canonical_combining_class c) ≡ false → composite ucd a c ≡ None }
 {}
 
 /// A text may be cut after each line feed (U+000A), and each part brought into the form by itself, whatever the parts are.

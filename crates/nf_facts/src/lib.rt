@@ -5,4 +5,4 @@
 pub mod laws;
 mod tables;
 
-pub use tables::{begins_with_mark, in_tables, is_halfwidth_mark};
+pub use tables::in_tables;

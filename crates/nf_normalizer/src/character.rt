@@ -3,35 +3,36 @@ use crate::front::Unsound;
 use crate::normalizer::Normalizer;
 use crate::pushing::{push, push_decomposition, push_of_class};
 use crate::room::Room;
-use nf_row::{JOINER, NonStarters, RowRoom, Rows, sound, sound_row};
+use nf_entry::Entry;
+use nf_row::{JOINER, NonStarters, RowRoom, Rows, own_class, sound, sound_row};
 
 /// Each call answers whether U+034F was put before the character. Where it is unsound nothing is put.
 impl Normalizer {
     ghost use Rattle.std.specs.Prelude.{◌≡◌, ◌+◌, ◌*◌, ◌<◌, ◌≤◌, ℕ, List, length, IsTrue, IfSome, OnOk};
     ghost use Rattle.nf_row.specs.NonStarters.{HasNonStarters};
-    ghost use Rattle.nf_row.specs.Own.{IsOwn};
+    ghost use Rattle.nf_row.specs.Own.{IsKnown, IsOwn};
     ghost use Rattle.nf_forms.specs.declared.form.Form.{Form};
     ghost use Rattle.nf_forms.specs.Sound.{is_sound};
     ghost use Rattle.nf_pending.specs.StandsAfter.{run_len, StandsAfter};
     ghost use Rattle.nf_normalizer.specs.Room.{Start, Holds};
     ghost use Rattle.nf_normalizer.specs.Normalizer.{HasTaken, IsWithin, HasRoom, PutsJoiner, MakesRoom, TakesNext, front_utf8, settled_text};
 
-    /// Takes the next character, of which one look-up told `own`, and puts what it settles into the room.
+    /// Takes the next character, by its entry where that is known, and puts what it settles into the room.
     #[inline(always)]
     pub(crate) fn take_char<R: Rows>(
         &mut self,
         rows: &R,
         c: char,
-        own: Option<u8>,
+        known: Option<Entry>,
         room: &mut Room,
     ) -> Result<bool, Unsound>
-        requires own { IfSome own (λ class. IsOwn (R.properties rows.now) c class) }
+        requires known { IfSome known (IsKnown (R.properties rows.now) c) }
         requires within { IsWithin self.old }
         requires room { length room.old.items + 200 ≤ 4096 }
         ensures within { OnOk result (IsWithin self.new) }
         ensures takes { TakesNext (R.properties rows.now) self.old self.new room.old.items room.new.items c result }
     {
-        match own {
+        match own_class(known) {
             Some(class) => self.take_own(rows, c, class, room),
             None => self.take_row(rows, c, room),
         }

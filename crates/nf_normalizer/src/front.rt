@@ -2,7 +2,8 @@
 use crate::normalizer::Normalizer;
 use crate::room::Room;
 use nf_boundary::{Formed, Segments, first_segments};
-use nf_row::{Rows, is_never_second, own_class};
+use nf_entry::Entry;
+use nf_row::{Form, Rows, known_entry};
 use nf_utf8::ascii_prefix;
 
 /// The least bytes of a text of which segments are asked for: each character of a shorter one goes the ordinary way for less.
@@ -30,6 +31,7 @@ impl Normalizer {
     ghost use Rattle.std.specs.Prelude.{◌≡◌, ◌+◌, ◌<◌, ◌≤◌, ℕ, List, [], length, Ok, IfSome, IsNone, IfOk, OnOk};
     ghost use Rattle.nf_forms.specs.declared.form.Form.{Form};
     ghost use Rattle.nf_boundary.specs.Front.{IsFirstSegments};
+    ghost use Rattle.nf_row.specs.Own.{IsKnownFirst};
     ghost use Rattle.nf_normalizer.specs.Room.{Start, Holds};
     ghost use Rattle.nf_normalizer.specs.Normalizer.{HasTaken, IsWithin, TakesNext, settled_text};
     ghost use Rattle.nf_normalizer.specs.Front.{Passes, Takes};
@@ -55,13 +57,13 @@ impl Normalizer {
     {
         let mut chars = text.chars();
         let c = chars.next().unwrap();
-        let own = own_class(rows, c);
-        if self.may_begin_segments(rows, c, own)
-            && let Some(front) = self.take_many(rows, text, room, formed)
+        let known = known_entry(rows, c);
+        if self.may_begin_segments(known)
+            && let Some(front) = self.take_many(rows, text, known, room, formed)
         {
             return Ok(front);
         }
-        match self.take_char(rows, c, own, room) {
+        match self.take_char(rows, c, known, room) {
             Ok(joined) => Ok(Front {
                 same: "",
                 rest: chars.as_str(),
@@ -71,15 +73,17 @@ impl Normalizer {
         }
     }
 
-    /// Whether segments may begin with `c`, of which one look-up told `own`: they do not with a mark, nor with a starter that
-    /// may compose with the one before.
+    /// Whether segments may begin with a character, by its entry: they do not with a mark that is its own row, nor with such a
+    /// starter that may compose with the one before.
     #[inline(always)]
-    fn may_begin_segments<R: Rows>(&self, rows: &R, c: char, own: Option<u8>) -> bool {
-        match own {
-            Some(0) => !self.form.composes() || is_never_second(rows, c),
-            Some(_) => false,
-            None => true,
+    fn may_begin_segments(&self, known: Option<Entry>) -> bool {
+        let Some(entry) = known else {
+            return true;
+        };
+        if !entry.is_yes(Form::Nfkd) {
+            return true;
         }
+        entry.class() == 0 && (!self.form.composes() || entry.is_yes(Form::Nfc))
     }
 
     /// Takes segments, where to ask for them costs less than to do without, or a run of plain ASCII after one
@@ -89,9 +93,11 @@ impl Normalizer {
         &mut self,
         rows: &R,
         text: &'t str,
+        known: Option<Entry>,
         room: &mut Room,
         formed: &mut Formed,
     ) -> Option<Front<'t>>
+        requires known { IfSome known (IsKnownFirst (R.properties rows.now) text.now) }
         requires some { 0 < length text.now }
         requires within { IsWithin self.old }
         requires room { length room.old.items + 200 ≤ 4096 }
@@ -102,7 +108,7 @@ impl Normalizer {
             (f : Form) (x : List ℕ) (start : Start) → HasTaken f p self.old x → Holds start room.old.items (settled_text f p x)
             → IfSome result (λ front. Takes f p self.new start room.new.items formed.new.items x text.now (Ok front)) }
     {
-        if let Some(Segments { same, rest }) = self.first_segments(rows, text, formed) {
+        if let Some(Segments { same, rest }) = self.first_segments(rows, text, known, formed) {
             self.settle(rows, room);
             return Some(Front {
                 same,
@@ -130,12 +136,14 @@ impl Normalizer {
     #[inline(always)]
     fn first_segments<'t, R: Rows>(
         &self,
-        rows: &R,
+        _rows: &R,
         text: &'t str,
+        known: Option<Entry>,
         formed: &mut Formed,
     ) -> Option<Segments<'t>>
-        requires { 0 < length text.now }
-        ensures { IfSome result (λ segments. IsFirstSegments (R.properties rows.now) self.now.form text.now segments.same.now formed.new.items segments.rest.now) }
+        requires some { 0 < length text.now }
+        requires known { IfSome known (IsKnownFirst (R.properties _rows.now) text.now) }
+        ensures { IfSome result (λ segments. IsFirstSegments (R.properties _rows.now) self.now.form text.now segments.same.now formed.new.items segments.rest.now) }
     {
         let least = if self.is_plain && text.as_bytes()[0] < 0x80 {
             MIN_ASCII_SEGMENT_LEN
@@ -145,6 +153,6 @@ impl Normalizer {
         if text.len() < least {
             return None;
         }
-        first_segments(rows, self.form, text, formed)
+        first_segments(self.form, text, known?, formed)
     }
 }

@@ -24,7 +24,7 @@ pub use composites::composite;
 pub use lending::{RowRoom, is_own_row, row_of};
 pub use nf_forms::{Form, JOINER};
 pub use non_starters::NonStarters;
-pub use own::{is_never_second, own_class};
+pub use own::{class_may_compose, known_entry, own_class};
 pub use patched::{Change, Patched};
 pub use plain::{Plain, ascii_is_plain};
 pub use rows::{Long, Row, Rows};

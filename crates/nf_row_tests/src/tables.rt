@@ -1,8 +1,11 @@
 use nf_row::{
-    Change, NonStarters, Patched, Rows, Ucd, all_sound, composite, is_never_second, own_class,
+    Change, NonStarters, Patched, Rows, Ucd, all_sound, class_may_compose, composite, known_entry,
+    own_class,
 };
+use std::iter;
 use std::process::Abort;
 use std::test::Fail;
+use unicode_normalization::{QuickCheck, is_nfc_quick};
 
 /// Classes by UnicodeData.txt.
 #[test]
@@ -103,26 +106,25 @@ fn noncharacters_and_private_use(rt: HostRuntime) {
     assert_eq!(rt; (noncharacters, private), (66, 137_468));
 }
 
-/// By the quick checks of NFC in DerivedNormalizationProps.txt.
+/// A class is of no character that may compose where each of its characters has the answer Yes of NFC in
+/// DerivedNormalizationProps.txt.
 #[test]
-fn what_is_never_second(rt: HostRuntime) {
-    for (c, never) in [
-        ('a', true),
-        ('\u{E9}', true),
-        ('\u{AC00}', true),
-        ('\u{316}', true),
-        ('\u{FF9E}', true),
-        ('\u{301}', false),
-        // Starters that may compose with what is before them, and one of these that decomposes.
-        ('\u{1161}', false),
-        ('\u{11C2}', false),
-        ('\u{9BE}', false),
-        ('\u{16D68}', false),
-        // What does not stand in NFC.
-        ('\u{2126}', false),
-        ('\u{344}', false),
-    ] {
-        assert_eq!(rt; is_never_second(&Ucd, c), never, "{c:?}");
+fn classes_that_compose(rt: HostRuntime) {
+    let mut composing = [false; 256];
+    for code in 0..0x11_0000u32 {
+        let Some(c) = char::from_u32(code) else {
+            continue;
+        };
+        if is_nfc_quick(iter::once(c)) != QuickCheck::Yes {
+            composing[usize::from(Ucd.class(c))] = true;
+        }
+    }
+    for class in 0..=255u8 {
+        assert_eq!(rt;
+            class_may_compose(&Ucd, class),
+            composing[usize::from(class)],
+            "{class}"
+        );
     }
 }
 
@@ -131,7 +133,8 @@ fn what_is_never_second(rt: HostRuntime) {
 fn nothing_is_known_of_changed_data(rt: HostRuntime) {
     let changes = [Change::Class('a', 1)];
     let rows = Patched::new(&changes);
-    assert!(rt; !is_never_second(&rows, 'b') && is_never_second(&Ucd, 'b'));
+    assert!(rt; known_entry(&rows, 'b').is_none() && known_entry(&Ucd, 'b').is_some());
+    assert!(rt; class_may_compose(&rows, 2) && !class_may_compose(&Ucd, 2));
     assert!(rt; !all_sound(&rows) && all_sound(&Ucd));
 }
 
@@ -155,10 +158,9 @@ fn own_classes(rt: HostRuntime) {
         ('\u{F73}', None),
         ('\u{AC00}', None),
     ] {
-        assert_eq!(rt; own_class(&Ucd, c), class, "{c:?}");
+        assert_eq!(rt; own_class(known_entry(&Ucd, c)), class, "{c:?}");
     }
-    let changes = [Change::Class('a', 1)];
-    assert_eq!(rt; own_class(&Patched::new(&changes), 'b'), None);
+    assert_eq!(rt; own_class(None), None);
 }
 
 #[test]

@@ -1,7 +1,7 @@
 ghost use Rattle.std.specs.Prelude.{◌≤◌};
 
 use nf_counts::Counts;
-use nf_row::{NonStarters, RowRoom, Rows, SoundRow, own_class, sound_row};
+use nf_row::{NonStarters, RowRoom, Rows, SoundRow, known_entry, own_class, sound_row};
 
 /// The non-starters of decomposed text, and its runs of them.
 #[derive(Clone, Copy, Debug)]
@@ -46,7 +46,7 @@ impl Runs {
         ensures ends { let p = R.properties rows.now in IfSome result (λ with. HasNonStarters p (p.compat c) with.1) }
     {
         let mut runs = self;
-        if let Some(class) = own_class(rows, c) {
+        if let Some(class) = own_class(known_entry(rows, c)) {
             runs.push(class == 0);
             return Some((runs, NonStarters::of_one(class == 0)));
         }

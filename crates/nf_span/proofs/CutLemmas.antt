@@ -18,6 +18,8 @@ use Rattle.nf_forms.specs.Span.{GoesOn, IsSpanFrom, IsSpan}
 use Rattle.nf_forms.specs.Ucd.{ucd}
 use Rattle.nf_forms.specs.Laws.Runs.{has_starter-append, lead-marks}
 use Rattle.nf_forms.specs.Laws.Span.{mark-not_starter, span-begins}
+use Rattle.nf_entry.specs.Entry.{IsEntry, IsOfFirst}
+use Rattle.nf_entry.specs.declared.entry.Entry.{Entry}
 use Rattle.nf_facts.specs.Passing.{is_among, halfwidth_marks, vowel_signs}
 use Rattle.nf_span.specs.Front.{BeginsAndMarks}
 use Rattle.nf_span.specs.Split.{counts_as_mark, StarterAndMarks, SplitsAtStarter, MarksAfter}
@@ -64,6 +66,15 @@ module _ {text last front : List ℕ} (here : MarksAfter text last) (c : ℕ) (s
 
   pub front_boundary : IsCharBoundary text (length front)
   front_boundary = IsCharBoundary-at_seam text front after split after_utf8
+
+  -- and what comes of it begins with that character
+  pub is_first : {b : List ℕ} (entry : Entry) → IsEntry c entry → b ≡ drop (length front) text → IsOfFirst b entry
+  is_first entry known is_back = record {
+    first = c;
+    others = chars here.marks;
+    begins = ap chars (is_back ∙ ap (drop (length front)) split ∙ drop-append_seam front after) ∙ chars-after;
+    is_entry = known;
+  }
 
   pub splits_at_starter : {a b : List ℕ} → counts_as_mark c ≡ false → a ≡ take (length front) text → b ≡ drop (length front) text → SplitsAtStarter text a b
   splits_at_starter other is_front is_back =

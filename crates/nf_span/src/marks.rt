@@ -1,11 +1,12 @@
 ghost use Rattle.std.specs.Prelude.{◌≡◌, ◌≤◌, ◌+◌, false, IfSome, IsNone};
 ghost use Rattle.nf_forms.specs.Ucd.{ucd};
 ghost use Rattle.nf_forms.specs.Span.{GoesOn};
+ghost use Rattle.nf_entry.specs.Entry.{IsEntry};
 ghost use Rattle.nf_span.specs.Going.{goes_on};
 
-use nf_facts::{in_tables, is_halfwidth_mark, laws};
+use nf_entry::Entry;
+use nf_facts::laws;
 use nf_forms::{Form, MAX_RUN};
-use ucd_normal::{QuickCheck, class_and_quick_check};
 
 /// No decomposition has more members, so that after one character this is a bound of how many there are.
 const MAX_ROW: u8 = 18;
@@ -33,26 +34,22 @@ impl Marks {
         count: MAX_ROW,
     };
 
-    /// The marks after one character more, where one look-up tells that the text goes on as a span with it.
+    /// The marks after one character more, where its entry tells that the text goes on as a span with it.
     #[inline(always)]
-    pub fn after(self, form: Form, c: char) -> Option<Marks>
-        ensures goes_on { IfSome result (λ next. GoesOn ucd form self.class self.count c next.class next.count) }
-        ensures stops { IsNone result → goes_on form self.class self.count c ≡ false }
+    pub fn after(self, form: Form, _c: char, entry: Entry) -> Option<Marks>
+        requires { IsEntry _c entry }
+        ensures goes_on { IfSome result (λ next. GoesOn ucd form self.class self.count _c next.class next.count) }
+        ensures stops { IsNone result → goes_on form self.class self.count _c ≡ false }
     {
         laws::every_character_is_sound();
         laws::the_quick_check_tells();
         laws::what_passes_has_a_boundary_before();
         laws::some_starters_count_as_marks();
-        let (class, QuickCheck::Yes) = class_and_quick_check(c, in_tables(form)) else {
-            return None;
-        };
-        if class == 0 {
-            if !is_halfwidth_mark(c) {
-                return Some(Marks::NONE);
-            }
-            return self.counted(0);
+        if entry.passes(form) {
+            return Some(Marks::NONE);
         }
-        if class < self.class {
+        let class = entry.class();
+        if !entry.is_yes(form) || class != 0 && class < self.class {
             return None;
         }
         self.counted(class)

@@ -5,6 +5,7 @@ use crate::blocks::plain_blocks;
 use crate::lanes::plain_len;
 use crate::leads::wants_look;
 use crate::marks::Marks;
+use nf_entry::Entry;
 use nf_facts::laws;
 use nf_forms::Form;
 
@@ -132,7 +133,7 @@ impl<'t> Scan<'t> {
     {
         let mut chars = self.rest.chars();
         let c = chars.next()?;
-        let marks = self.marks.after(form, c)?;
+        let marks = self.marks.after(form, c, Entry::of(c))?;
         Some(Scan {
             rest: chars.as_str(),
             marks,

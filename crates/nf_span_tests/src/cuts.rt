@@ -1,6 +1,7 @@
 //! Texts whose span was found by hand, from UnicodeData.txt and DerivedNormalizationProps.txt.
+use crate::sweep::parts_of;
 use nf_forms::Form;
-use nf_span::{Span, span_text};
+use nf_span::span_text;
 use std::alloc::Global;
 use std::process::Abort;
 use std::test::Fail;
@@ -15,12 +16,8 @@ fn check<T: Abort>(rt: &T, alloc: Global, form: Form, cuts: &[Cut]) -> Result<()
     for (settled, tail, rest) in cuts {
         let text = format!(in alloc; "{settled}{tail}{rest}")?;
         assert_eq!(rt;
-            span_text(form, &text).split(),
-            Span {
-                settled,
-                tail,
-                rest,
-            },
+            parts_of(form, &text),
+            (*settled, *tail, *rest),
             "{form:?}: {text:?}"
         );
     }

@@ -1,8 +1,7 @@
 //! Made-up mixtures of letters, marks and any characters, against the span found by one character after another.
-use crate::sweep::{Role, role_of};
+use crate::sweep::{Role, parts_of, role_of};
 use nf_forms::Form;
 use nf_seeded::Seeded;
-use nf_span::{Span, span_text};
 use std::test::Fail;
 use unicode_normalization::char::canonical_combining_class;
 
@@ -35,7 +34,7 @@ const BLOCKS: [(u32, u32); 12] = [
 ];
 
 /// The span by the role of each character: after an own boundary a bound of 18 non-starters is counted from.
-fn front_of(form: Form, text: &str) -> Span<'_> {
+fn front_of(form: Form, text: &str) -> (&str, &str, &str) {
     let (mut class, mut count) = (0u8, 30u8);
     let (mut last, mut end) = (0usize, 0usize);
     for c in text.chars() {
@@ -54,11 +53,11 @@ fn front_of(form: Form, text: &str) -> Span<'_> {
         }
         end = end.saturating_add(c.len_utf8());
     }
-    Span {
-        settled: text.get(..last).unwrap_or_default(),
-        tail: text.get(last..end).unwrap_or_default(),
-        rest: text.get(end..).unwrap_or_default(),
-    }
+    (
+        text.get(..last).unwrap_or_default(),
+        text.get(last..end).unwrap_or_default(),
+        text.get(end..).unwrap_or_default(),
+    )
 }
 
 #[test]
@@ -81,7 +80,7 @@ fn mixtures_end_where_their_characters_say(rt: HostRuntime) -> Result<(), Fail> 
         }
         for form in [Form::Nfc, Form::Nfd, Form::Nfkc, Form::Nfkd] {
             assert_eq!(rt;
-                span_text(form, &text).split(),
+                parts_of(form, &text),
                 front_of(form, &text),
                 "{form:?}, {round}"
             );

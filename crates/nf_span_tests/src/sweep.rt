@@ -1,6 +1,6 @@
 //! Every scalar value, alone and after a letter, against the definitions: the quick check, and whole decompositions.
 use nf_forms::Form;
-use nf_span::{Span, span_text};
+use nf_span::span_text;
 use std::iter;
 use std::test::Fail;
 use unicode_normalization::char::{canonical_combining_class, decomposition};
@@ -47,6 +47,30 @@ pub(crate) fn role_of(form: Form, c: char) -> Role {
     }
 }
 
+/// What is settled of the span that a text begins with, its tail, and the rest of the text.
+pub(crate) fn parts_of(form: Form, text: &str) -> (&str, &str, &str) {
+    let span = span_text(form, text).split();
+    (span.settled, span.tail, span.rest)
+}
+
+/// The entry of the tail's first character is told wherever there is a tail.
+#[test]
+fn the_tail_begins_with_a_known_character(rt: HostRuntime) {
+    for (text, known) in [
+        ("", false),
+        ("\u{301}", false),
+        ("a", true),
+        ("ab\u{316}", true),
+        ("\u{5D0}\u{5B0}", true),
+    ] {
+        assert_eq!(rt;
+            span_text(Form::Nfc, text).split().known.is_some(),
+            known,
+            "{text:?}"
+        );
+    }
+}
+
 #[test]
 fn each_scalar_value(rt: HostRuntime) -> Result<(), Fail> {
     for form in [Form::Nfc, Form::Nfd, Form::Nfkc, Form::Nfkd] {
@@ -57,21 +81,13 @@ fn each_scalar_value(rt: HostRuntime) -> Result<(), Fail> {
             let mut bytes = [0; 4];
             let own: &str = c.encode_utf8(&mut bytes);
             let after = format!(in rt.alloc(); "a{own}")?;
-            let cut = |settled, tail, rest| Span {
-                settled,
-                tail,
-                rest,
-            };
             let expected = match role_of(form, c) {
-                Role::Boundary => (cut("", own, ""), cut("a", own, "")),
-                Role::Mark => (cut("", "", own), cut("", &after, "")),
-                Role::Ends => (cut("", "", own), cut("", "a", own)),
+                Role::Boundary => (("", own, ""), ("a", own, "")),
+                Role::Mark => (("", "", own), ("", after.as_str(), "")),
+                Role::Ends => (("", "", own), ("", "a", own)),
             };
             assert_eq!(rt;
-                (
-                    span_text(form, own).split(),
-                    span_text(form, &after).split()
-                ),
+                (parts_of(form, own), parts_of(form, &after)),
                 expected,
                 "{form:?}, {code:x}"
             );

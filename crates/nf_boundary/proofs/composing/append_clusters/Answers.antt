@@ -3,17 +3,17 @@ use Rattle.nf_boundary.proofs.SeenLemmas.{shorter}
 use Rattle.nf_boundary.proofs.JoinLemmas.{gathers_first, gathers_more, gathers_segments}
 use Rattle.nf_boundary.proofs.composing.append_clusters.Goals as goal
 
-pub loop-cluster-init : goal.loop-cluster-init
-loop-cluster-init c = search (rules, gathers_first, c.new-cluster.ensures, c.join_letters-after.ensures, c.in_ok-next.ensures.0, c.in_ok-next.ensures.1)
+pub loop-form-init : goal.loop-form-init
+loop-form-init c = search (rules, gathers_first, c.new-cluster.ensures, c.join_letters-after.ensures, c.in_ok-next.ensures.0, c.in_ok-next.ensures.1)
 
-pub loop-cluster-smaller : goal.loop-cluster-smaller
-loop-cluster-smaller c = search (rules, shorter)
+pub loop-form-smaller : goal.loop-form-smaller
+loop-form-smaller c = search (rules, shorter)
 
-pub loop-cluster-preserved : goal.loop-cluster-preserved
-loop-cluster-preserved c = search (rules, gathers_more, c.in_ok-join.ensures.joins refl, c.in_ok-next-2.ensures.0, c.in_ok-next-2.ensures.1)
+pub loop-form-preserved : goal.loop-form-preserved
+loop-form-preserved c = search (rules, gathers_more, c.in_ok-join.ensures.joins refl, c.in_ok-next-2.ensures.0, c.in_ok-next-2.ensures.1)
 
 pub returns-clause-closes : goal.returns-clause-closes
 returns-clause-closes c =
-    let after : IsAtBoundary c.args.form c.loop-cluster.next = search rules in
-    let grown : c.append_to.new.formed.items ≡ c.loop-cluster.formed.items ++ encode_utf8_all (c.loop-cluster.cluster.starter ∷ c.loop-cluster.cluster.left.items) = search rules in
+    let after : IsAtBoundary c.args.form c.loop-form.next = search rules in
+    let grown : c.append_to.new.formed.items ≡ c.loop-form.formed.items ++ encode_utf8_all (c.loop-form.cluster.starter ∷ c.loop-form.cluster.left.items) = search rules in
     search (rules, gathers_segments)

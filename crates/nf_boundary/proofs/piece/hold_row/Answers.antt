@@ -6,7 +6,7 @@ use Rattle.nf_boundary.proofs.piece.hold_row.Goals as goal
 
 pub loop-member-preserved : goal.loop-member-preserved
 loop-member-preserved c =
-    let some : canonical_combining_class c.member-item.result ≢ 0 = rw c.canonical_combining_class.ensures at (c.in_ok-left.ensures.class refl) in
+    let some : canonical_combining_class c.member-item.result ≢ 0 = rw (c.class.ensures _ c.of.ensures) at (c.in_ok-left.ensures.class refl) in
     record {
       becomes = λ w starter before now here. rw (take_next _ _ _ c.loop-member-test.true c.member-item.is, ← append_assoc w) (c.in_ok-left.ensures.becomes refl c.args.form _ starter before now (c.loop-member.invariant.becomes w starter before now here));
       marks = search (rules, marks_next);

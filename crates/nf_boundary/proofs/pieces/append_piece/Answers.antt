@@ -3,12 +3,12 @@ use Rattle.nf_boundary.proofs.SeenLemmas.{shorter}
 use Rattle.nf_boundary.proofs.FillsLemmas.{fills_more, fills_segments}
 use Rattle.nf_boundary.proofs.pieces.append_piece.Goals as goal
 
-pub loop-next-smaller : goal.loop-next-smaller
-loop-next-smaller c = search (rules, shorter)
+pub loop-piece-smaller : goal.loop-piece-smaller
+loop-piece-smaller c = search (rules, shorter)
 
-pub loop-next-preserved : goal.loop-next-preserved
-loop-next-preserved c = search (rules, fills_more, c.in_ok-join.ensures.becomes refl, c.in_ok-join.ensures.leaves refl)
+pub loop-piece-preserved : goal.loop-piece-preserved
+loop-piece-preserved c = search (rules, fills_more, c.in_ok-join.ensures.becomes refl, c.in_ok-join.ensures.leaves refl)
 
 pub returns-clause-closes : goal.returns-clause-closes
 returns-clause-closes c =
-    fills_segments _ _ c.requires.at _ _ _ _ c.loop-next.invariant c.every_character_is_sound.ensures.text _ c.in_ok-after.ensures.seen c.in_ok-after.ensures.row.at _ (c.in_ok-close.ensures.closes refl)
+    fills_segments _ _ c.requires.at _ _ _ _ c.loop-piece.invariant c.every_character_is_sound.ensures.text _ c.in_ok-after.ensures.seen c.in_ok-after.ensures.row.at _ (c.in_ok-close.ensures.closes refl)

@@ -3,8 +3,10 @@ use Rattle.nf_boundary.proofs.BecomesLemmas.{leaves_any}
 use Rattle.nf_boundary.proofs.FillsLemmas.{becomes_own, becomes_row, take_after}
 use Rattle.nf_boundary.proofs.piece.Piece.begin.Goals as goal
 
-pub returns-then-is_own_row-clause-becomes : goal.returns-then-is_own_row-clause-becomes
-returns-then-is_own_row-clause-becomes c = search (rules, becomes_own)
+pub returns-then-is_yes-clause-becomes : goal.returns-then-is_yes-clause-becomes
+returns-then-is_yes-clause-becomes c = λ _.
+    let own = c.what_passes_in_nfkd_is_its_own_row.ensures _ ((c.is_yes.ensures _ c.requires.at.sees.known).0 c.if-is_yes.true) in
+    search (rules, becomes_own)
 
 pub loop-member-init : goal.loop-member-init
 loop-member-init c = search (rules, becomes_row, c.in_ok-starter.ensures.cases.0)

@@ -1,8 +1,10 @@
-use Rattle.nf_boundary.proofs.Common.{rules, ◌≢◌, No}
+use Rattle.nf_boundary.proofs.Common.{◌≢◌, arith, nat_tests, No, kit_form, quick_check, canonical_combining_class}
 use Rattle.nf_boundary.proofs.FillsLemmas.{leaves_mark}
 use Rattle.nf_boundary.proofs.piece.Piece.join.Goals as goal
 
-pub returns-then-ne-clause-leaves : goal.returns-then-ne-clause-leaves
-returns-then-ne-clause-leaves c = λ _ cs here.
-    let may : c.args.seen.answer ≢ No = search rules in
-    leaves_mark c.args.form _ c.requires (c.the_quick_check_tells.ensures.mark _) c.if-seen-ne0.true may cs _ _ c.in_ok-self.ensures.room here
+pub returns-then-not-is_no-clause-leaves : goal.returns-then-not-is_no-clause-leaves
+returns-then-not-is_no-clause-leaves c = λ _ cs here.
+    let x = c.args.seen.character in
+    let may : quick_check (kit_form c.args.form) x ≢ No = grind (arith, (c.is_no.ensures x c.requires.known).1, c.if-not-is_no.true) in
+    let some : canonical_combining_class x ≢ 0 = grind (arith, nat_tests, c.class-class.ensures x c.requires.known, c.if-class-ne0.true) in
+    leaves_mark c.args.form x (c.the_quick_check_tells.ensures.mark _) some may cs _ _ c.in_ok-self.ensures.room here

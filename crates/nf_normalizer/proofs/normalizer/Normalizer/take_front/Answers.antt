@@ -1,3 +1,5 @@
+use Rattle.std.proofs.lemmas.Option.{IfSome_then}
+use Rattle.std.proofs.lemmas.Str.{chars_past_char}
 use Rattle.nf_normalizer.proofs.Common.{◌≡◌, [], ◌∙◌, sym, rules}
 use Rattle.nf_normalizer.proofs.FrontLemmas.{leaves-one, takes-one, refuses-one}
 use Rattle.nf_normalizer.proofs.normalizer.Normalizer.take_front.Goals as goal
@@ -21,3 +23,9 @@ returns-in-Err-clause-takes g c = λ f x start taken holds.
       | else-may_begin_segments-via-then-may_begin_segments+in-None-1 w ↦ let none = w.take_many.ensures.none (search rules) in (w.self-is ∙ none.0, w.room-is ∙ none.1)
     ] in
     refuses-one c.unwrap-c.result _ c.utf8.text (sym c.chars-chars.ensures.rest ∙ rw c.unwrap-c.ensures at c.next.ensures.steps.0) taken.usable (rw c.in-Err.is at (rw (here.0, here.1) at c.take_char.ensures.takes f x start taken holds))
+
+pub take_many-requires-clause-known : goal.take_many-requires-clause-known
+take_many-requires-clause-known g c =
+    let begins = chars_past_char c.args.text.now _ c.unwrap-c.result c.utf8.text (sym c.chars-chars.ensures.rest ∙ rw c.unwrap-c.ensures at c.next.ensures.steps.0) in
+    IfSome_then c.known_entry-known.result c.known_entry-known.ensures (λ entry known.
+    record { properties = known.properties; is_first = record { first = c.unwrap-c.result; others = _; begins = begins; is_entry = known.is_entry } })

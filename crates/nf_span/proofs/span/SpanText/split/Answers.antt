@@ -2,12 +2,12 @@ use Rattle.std.proofs.Common.{◌++◌, ap, ◌∙◌, append_assoc}
 use Rattle.nf_span.proofs.CutLemmas.{span_end}
 use Rattle.nf_span.proofs.span.SpanText.split.Goals as goal
 
-pub returns : goal.returns
-returns c = λ f whole here.
-    let parts = c.split_last_starter.ensures in
+pub returns-clause-span : goal.returns-clause-span
+returns-clause-span c = λ f whole here.
+    let parts = c.split_last_starter-known.ensures.splits in
     let span = rw parts.characters at here.is_span in
     record {
-      text = here.text ∙ ap (λ t. t ++ c.args.self.rest.now) parts.text ∙ append_assoc c.split_last_starter.result.0.now c.split_last_starter.result.1.now c.args.self.rest.now;
+      text = here.text ∙ ap (λ t. t ++ c.args.self.rest.now) parts.text ∙ append_assoc c.split_last_starter-known.result.0.now c.split_last_starter-known.result.1.now c.args.self.rest.now;
       class = here.class;
       count = here.count;
       span = span;
