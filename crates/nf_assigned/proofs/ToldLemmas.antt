@@ -4,7 +4,9 @@ use Rattle.nf_forms.specs.Ucd.{is_assigned}
 use Rattle.nf_facts.specs.Within.{lies_within, in_ranges-lies_within}
 use Rattle.ucd_table.proofs.TrieCheck.{all_below}
 use Rattle.nf_lanes.proofs.LooksLemmas.{Known, Tells}
-use Rattle.nf_assigned.specs.Bytes.{By, leads, first_family, second_family, finds}
+use Rattle.nf_assigned.specs.declared.lanes.By.{By}
+use Rattle.nf_assigned.specs.declared.lanes.By.TheVariants.{Leads, First, Second}
+use Rattle.nf_assigned.specs.Bytes.{finds}
 use Rattle.nf_assigned.proofs.RangeLemmas.{told_ranges, told-assigned}
 
 abbrev within : ℕ → ℕ → Bool
@@ -35,6 +37,6 @@ known = record {
 -- so of a character that one of them does not find
 pub tells : (by : By) → Tells _ _ _ known (finds by)
 unfolding told_ranges all_below known
-tells leads = record { of_two = refl; of_three = refl; of_four = refl }
-tells first_family = record { of_two = refl; of_three = refl; of_four = refl }
-tells second_family = record { of_two = refl; of_three = refl; of_four = refl }
+tells Leads = record { of_two = refl; of_three = refl; of_four = refl }
+tells First = record { of_two = refl; of_three = refl; of_four = refl }
+tells Second = record { of_two = refl; of_three = refl; of_four = refl }

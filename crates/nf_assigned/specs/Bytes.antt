@@ -2,20 +2,16 @@
 use Rattle.std.specs.Prelude.{◌<◌, ◌≤◌, ◌==◌, ℕ, Bool, not, List, slice_index}
 use Rattle.nf_lanes.specs.Looks.{is_in, NoneFound}
 use Rattle.nf_lanes.specs.Sets.{byte_sets}
+use Rattle.nf_assigned.specs.declared.lanes.By.{By}
+use Rattle.nf_assigned.specs.declared.lanes.By.TheVariants.{Leads, First, Second}
 use Rattle.nf_assigned.specs.declared.leads.TheConstants.{HIGH, LOW}
 use Rattle.nf_assigned.specs.declared.pairs.TheConstants.{FIRST, SECOND}
 
--- what tells: lead bytes, or one of two families
-pub data By : Type 0 where
-  leads : By
-  first_family : By
-  second_family : By
-
 -- these have to be looked up
 abbrev pub finds : By → ℕ → ℕ → Bool
-finds leads byte next = not (byte_sets HIGH LOW byte == 0)
-finds first_family byte next = is_in FIRST byte next
-finds second_family byte next = is_in SECOND byte next
+finds Leads byte next = not (byte_sets HIGH LOW byte == 0)
+finds First byte next = is_in FIRST byte next
+finds Second byte next = is_in SECOND byte next
 
 -- one of them tells of the character that begins with byte k
 abbrev pub IsTold : List ℕ → ℕ → Type 0

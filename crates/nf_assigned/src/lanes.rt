@@ -1,15 +1,25 @@
 //! Bytes and pairs of them, many at once.
 
-ghost use Rattle.std.specs.Prelude.{◌≡◌, ◌<◌, ◌≤◌, ◌+◌, ℕ, length, IsTrue};
-ghost use Rattle.nf_assigned.specs.Bytes.{AreTold, IsTold};
+ghost use Rattle.std.specs.Prelude.{◌≡◌, ◌<◌, ◌≤◌, ◌+◌, ℕ, length, slice_index, IsTrue};
+ghost use Rattle.std.specs.Int.{bit_at};
+ghost use Rattle.nf_lanes.specs.Looks.{NoneFound};
+ghost use Rattle.nf_assigned.specs.Bytes.{finds, AreTold, IsTold};
 
 use crate::leads::{HIGH, LOW};
 use crate::pairs::{FIRST, SECOND};
 use nf_lanes::{byte_sets, found_by_both, none_found, none_of};
 use nf_utf8::ascii_prefix;
 
-/// So often at most lead bytes are not asked.
-const MAX_PAUSE: u32 = 15;
+/// After so many windows of 63 bytes at most lead bytes are asked again.
+const MAX_WINDOWS: usize = 63;
+
+/// What is asked of 63 bytes at once: their lead bytes alone, or their pairs by one of two families.
+#[derive(Clone, Copy)]
+pub(crate) enum By {
+    Leads,
+    First,
+    Second,
+}
 
 /// How many bytes there are before a character that has to be looked up. The last 64 are left out, but for ASCII at the front.
 #[inline(always)]
@@ -17,60 +27,73 @@ pub(crate) fn assigned_len(bytes: &[u8]) -> usize
     ensures within { result ≤ length bytes.now }
     ensures told { AreTold bytes.now result }
 {
+    let end = bytes.len().saturating_sub(64);
     let mut at = ascii_prefix(bytes);
-    // So many times 63 bytes are not asked by lead bytes: the more, the more often these did not tell all of them.
-    let mut pause = 0;
-    let mut left = 0;
-    // The family that is asked first: the other, where that one left something that the other told.
+    // So many windows are asked by a family: the more, the more often lead bytes told nothing.
+    let mut windows = MAX_WINDOWS;
+    // The family that is asked: the other, where that one told nothing.
     let mut is_second = false;
-    while bytes.len() - at > 64 {
-        if left > 0 {
-            left -= 1;
-        } else if are_told_by_leads(bytes, at) {
-            pause = 0;
-            at += 63;
-            continue;
-        } else {
-            pause = MAX_PAUSE.min(2 * pause + 1);
-            left = pause;
-        }
-        if is_told(is_second, bytes, at) {
-            at += 63;
+    while at < end {
+        let left = past_told(By::Leads, bytes, at, end);
+        windows = MAX_WINDOWS.min(if left > at { 1 } else { 2 * windows + 1 });
+        let until = end.min(left.saturating_add(63 * windows));
+        let family = if is_second { By::Second } else { By::First };
+        at = past_told(family, bytes, left, until);
+        if at >= until {
             continue;
         }
-        let found = found_by_both(&FIRST, &SECOND, 0xCD, bytes, at);
+        let found = found_by_neither(bytes, at);
         if found != 0 {
             return at + found.trailing_zeros() as usize;
         }
-        is_second = !is_second;
+        is_second = is_second != (at == left);
         at += 63;
     }
     at
 }
 
-/// Whether lead bytes tell of all that 63 bytes begin.
+/// The first place from `at` on, 63 bytes from one to the next, that is not before `end` or of which `by` does not tell.
 #[inline(always)]
-fn are_told_by_leads(bytes: &[u8], at: usize) -> bool
-    requires room { at + 64 < length bytes.now }
-    ensures { IsTrue result → (k : ℕ) → k < 63 → IsTold bytes.now (at + k) }
+fn past_told(by: By, bytes: &[u8], at: usize, end: usize) -> usize
+    requires within { at ≤ length bytes.now }
+    requires room { end + 64 ≤ length bytes.now }
+    requires told { AreTold bytes.now at }
+    ensures from { at ≤ result }
+    ensures within { result ≤ length bytes.now }
+    ensures told { AreTold bytes.now result }
 {
-    none_of(
-        byte_sets(&HIGH, &LOW, bytes, at),
-        byte_sets(&HIGH, &LOW, bytes, at + 16),
-        byte_sets(&HIGH, &LOW, bytes, at + 32),
-        byte_sets(&HIGH, &LOW, bytes, at + 48),
-    )
+    let mut to = at;
+    while to < end && is_told(by, bytes, to) {
+        to += 63;
+    }
+    to
 }
 
-/// Whether a family, the second or the first, tells by itself of all that 63 bytes begin.
+/// Whether `by` tells of all that 63 bytes begin.
 #[inline(always)]
-fn is_told(is_second: bool, bytes: &[u8], at: usize) -> bool
+fn is_told(by: By, bytes: &[u8], at: usize) -> bool
     requires room { at + 64 < length bytes.now }
-    ensures { IsTrue result → (k : ℕ) → k < 63 → IsTold bytes.now (at + k) }
+    ensures { IsTrue result → (k : ℕ) → k < 63 → NoneFound (finds by) bytes.now (at + k) }
 {
-    if is_second {
-        none_found(&SECOND, bytes, at)
-    } else {
-        none_found(&FIRST, bytes, at)
+    match by {
+        By::Leads => none_of(
+            byte_sets(&HIGH, &LOW, bytes, at),
+            byte_sets(&HIGH, &LOW, bytes, at + 16),
+            byte_sets(&HIGH, &LOW, bytes, at + 32),
+            byte_sets(&HIGH, &LOW, bytes, at + 48),
+        ),
+        By::First => none_found(&FIRST, bytes, at),
+        By::Second => none_found(&SECOND, bytes, at),
     }
+}
+
+/// A bit for each of 63 bytes, the lowest for the first, of which neither family tells. It stands apart, so that the loop keeps
+/// its tables in registers.
+#[inline(never)]
+fn found_by_neither(bytes: &[u8], at: usize) -> u64
+    requires room { at + 64 < length bytes.now }
+    ensures high { (k : ℕ) → k < 64 → bit_at result k ≡ 1 → (k < 63) × (0xCD ≤ slice_index bytes.now (at + k)) }
+    ensures told { (k : ℕ) → k < 63 → bit_at result k ≡ 0 → 0xCD ≤ slice_index bytes.now (at + k) → IsTold bytes.now (at + k) }
+{
+    found_by_both(&FIRST, &SECOND, 0xCD, bytes, at)
 }

@@ -47,10 +47,6 @@ module _ (f : Form) where
     pub closes_run : (run : List ℕ) → run ≡ take (length whole - length next.text.now) whole → length run ≢ 0 → (old new : List ℕ) → new ≡ old ++ run → Closes f whole next old new
     closes_run run is some old new grown = grind (arith, before)
 
-  -- nothing stands before the first character
-  pub reaches_none : (text formed : List ℕ) (next : Seen) → formed ≡ [] → next.text.now ≡ text → IsAtBoundary f next → Reaches f text [] formed next
-  reaches_none text formed next none is after = record { front = []; split = sym is; more = []; put = none; form = inl (refl, refl, refl); after = after }
-
   -- ---- a piece more
 
   pub closes_shorter : (text : List ℕ) (next : Seen) (old new : List ℕ) → Closes f text next old new → length next.text.now < length text

@@ -15,7 +15,8 @@ use unicode_normalization::char::decomposition;
 pub(crate) fn take_front_apart<'t>(form: Form, first: Seen<'t>, formed: &mut Formed) -> Seen<'t>
     requires first { IsAtBoundary form first }
     requires plain { composes form ≡ false }
-    ensures { (whole same : List ℕ) → Reaches form whole same formed.old.items first.entry → Reaches form whole same formed.new.items result }
+    ensures at { IsAtBoundary form result }
+    ensures reaches { (whole same : List ℕ) → Reaches form whole same formed.old.items first.entry → Reaches form whole same formed.new.items result }
 {
     let mut next = first;
     while let Some(after) = take_apart(form, next, formed) {

@@ -15,7 +15,8 @@ use nf_forms::Form;
 pub(crate) fn compose_front<'t>(form: Form, first: Seen<'t>, formed: &mut Formed) -> Seen<'t>
     requires first { IsAtBoundary form first }
     requires composing { composes form ≡ true }
-    ensures { (whole same : List ℕ) → Reaches form whole same formed.old.items first.entry → Reaches form whole same formed.new.items result }
+    ensures at { IsAtBoundary form result }
+    ensures reaches { (whole same : List ℕ) → Reaches form whole same formed.old.items first.entry → Reaches form whole same formed.new.items result }
 {
     let mut next = first;
     while let Some(after) = take_composed(form, next, formed) {

@@ -1,4 +1,5 @@
 ghost use Rattle.std.specs.Prelude.{◌≡◌, ℕ, List, take, length, IfSome, IsNone};
+ghost use Rattle.nf_boundary.specs.Seen.{IsAtBoundary};
 ghost use Rattle.nf_boundary.specs.Rows.{IsRow};
 ghost use Rattle.nf_boundary.specs.Pieces.{Closes, Reaches};
 
@@ -11,13 +12,14 @@ use nf_forms::Form;
 
 /// Where more bytes than this are there, the next piece is left for another front: it may have no room, and would then have
 /// been read in vain.
-const MOST_BEFORE: usize = 896;
+pub(crate) const MOST_BEFORE: usize = 896;
 
 /// Appends what the pieces become that the text begins with, as far as boundaries come after them; answers the last boundary.
 /// It stands out of line, to keep its callers' loops short.
 pub(crate) fn take_pieces<'t>(form: Form, first: Row<'t>, formed: &mut Formed) -> Seen<'t>
     requires { IsRow form first }
-    ensures { (whole same : List ℕ) → Reaches form whole same formed.old.items first.entry.seen → Reaches form whole same formed.new.items result }
+    ensures at { IsAtBoundary form result }
+    ensures reaches { (whole same : List ℕ) → Reaches form whole same formed.old.items first.entry.seen → Reaches form whole same formed.new.items result }
 {
     match form {
         Form::Nfc => pieces_in(Form::Nfc, first, formed),
@@ -31,7 +33,8 @@ pub(crate) fn take_pieces<'t>(form: Form, first: Row<'t>, formed: &mut Formed) -
 #[inline(always)]
 fn pieces_in<'t>(form: Form, first: Row<'t>, formed: &mut Formed) -> Seen<'t>
     requires { IsRow form first }
-    ensures { (whole same : List ℕ) → Reaches form whole same formed.old.items first.entry.seen → Reaches form whole same formed.new.items result }
+    ensures at { IsAtBoundary form result }
+    ensures reaches { (whole same : List ℕ) → Reaches form whole same formed.old.items first.entry.seen → Reaches form whole same formed.new.items result }
 {
     let mut piece = Piece::new();
     let mut next = first;

@@ -12,13 +12,13 @@ fn rows_between_boundaries(rt: HostRuntime) -> Result<(), Fail> {
     let fronts = [
         ("", "\u{2126}", "\u{3A9}", "b"),
         (
-            "",
-            "b\u{2126}\u{F900}e\u{301}",
-            "b\u{3A9}\u{8C48}\u{E9}",
+            "b",
+            "\u{2126}\u{F900}e\u{301}",
+            "\u{3A9}\u{8C48}\u{E9}",
             "c",
         ),
-        ("a", "b\u{2126}", "b\u{3A9}", "c"),
-        ("", "a\u{2126}", "a\u{3A9}", "\u{2126}\u{301}"),
+        ("ab", "\u{2126}", "\u{3A9}", "c"),
+        ("a", "\u{2126}", "\u{3A9}", "\u{2126}\u{301}"),
         // One character between two, and not more.
         ("", "\u{2126}a\u{2126}", "\u{3A9}a\u{3A9}", "bc\u{2126}"),
         (
@@ -41,13 +41,13 @@ fn rows_between_boundaries(rt: HostRuntime) -> Result<(), Fail> {
 #[test]
 fn rows_of_several_starters(rt: HostRuntime) -> Result<(), Fail> {
     let compatible = [
-        ("", "a\u{FB03}\u{FF21}", "affiA", "x"),
+        ("a", "\u{FB03}\u{FF21}", "ffiA", "x"),
         ("", "\u{FF76}\u{FF8A}", "\u{30AB}\u{30CF}", "x"),
         ("", "\u{FF21}", "A", "\u{FF21}\u{301}"),
         ("", "\u{FF76}\u{FF9E}", "\u{30AC}", "b"),
         ("", "\u{1E9B}", "\u{1E61}", "b"),
         ("", "\u{1E9B}\u{323}", "\u{1E69}", "b"),
-        ("", "a\u{1C4}", "aD\u{17D}", "b"),
+        ("a", "\u{1C4}", "D\u{17D}", "b"),
         ("", "\u{3313}", "\u{30AE}\u{30EB}\u{30C0}\u{30FC}", "b"),
         (
             "",

@@ -1,12 +1,14 @@
 -- A span goes on after a piece of the text.
 use Rattle.std.proofs.Common.{◌≡◌, ℕ, List, [], ◌∷◌, ◌++◌, refl, sym, ap, ◌∙◌, append_assoc, append-nil}
 use Rattle.std.specs.Prelude.{chars, encode_utf8, IsUtf8}
-use Rattle.std.proofs.lemmas.Str.{chars-append, chars_from_encodes, IsUtf8-append, IsUtf8-encode}
+use Rattle.std.proofs.lemmas.Str.{chars-append, chars_from_encodes, chars_past_char, IsUtf8-append, IsUtf8-encode}
 use Rattle.std.specs.Char.{IsScalar}
 use Rattle.nf_forms.specs.Properties.{Properties}
 use Rattle.nf_forms.specs.declared.form.Form.{Form}
 use Rattle.nf_forms.specs.Span.{GoesOn, IsSpanFrom}
 use Rattle.nf_forms.specs.Ucd.{ucd}
+use Rattle.nf_entry.specs.Entry.{IsEntry, IsOfFirst}
+use Rattle.nf_entry.specs.declared.entry.Entry.{Entry}
 use Rattle.nf_span.specs.declared.scan.Scan.{Scan}
 use Rattle.nf_span.specs.Scan.{Reaches}
 
@@ -34,3 +36,7 @@ module _ {f : Form} {text : List ℕ} {scan next : Scan} (here : Reaches f text 
       let u = IsUtf8-encode c scalar in
       let alone : chars (encode_utf8 c) ≡ c ∷ [] = sym (chars_from_encodes (c ∷ []) _ u (append-nil _)) in
       reaches_past_piece (encode_utf8 c) u e (rw alone (next.marks.class, next.marks.count, goes, (refl, refl)))
+
+-- what is known of the character that a text begins with
+pub of_first : (text after : List ℕ) (c : ℕ) (entry : Entry) → IsUtf8 text → text ≡ encode_utf8 c ++ after → IsEntry c entry → IsOfFirst text entry
+of_first text after c entry u e known = record { first = c; others = chars after; begins = chars_past_char text after c u e; is_entry = known }

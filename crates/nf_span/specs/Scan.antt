@@ -1,11 +1,13 @@
 -- A place in a text whose front, up to there, is a span.
-use Rattle.std.specs.Prelude.{◌≡◌, ◌==◌, if◌then◌else◌, ℕ, false, List, ◌∷◌, ◌++◌, chars, IsUtf8}
+use Rattle.std.specs.Prelude.{◌≡◌, ◌==◌, if◌then◌else◌, ℕ, false, List, ◌∷◌, ◌++◌, chars, IsUtf8, IfSome}
 use Rattle.nf_forms.specs.declared.form.Form.{Form}
 use Rattle.nf_forms.specs.declared.form.Form.TheVariants.{Nfc, Nfd, Nfkc, Nfkd}
 use Rattle.nf_forms.specs.Span.{IsSpan}
 use Rattle.nf_forms.specs.Ucd.{ucd}
 use Rattle.nf_span.specs.Going.{goes_on}
+use Rattle.nf_entry.specs.Entry.{IsOfFirst}
 use Rattle.nf_span.specs.declared.scan.Scan.{Scan}
+use Rattle.nf_span.specs.declared.scan.End.{End}
 
 -- the form of a number
 abbrev pub form_of : ℕ → Form
@@ -17,6 +19,11 @@ pub record Reaches (f : Form) (text : List ℕ) (scan : Scan) : Type 0 where
   pub front_utf8 : IsUtf8 front
   pub rest_utf8 : IsUtf8 scan.rest.now
   pub span : IsSpan ucd f (chars front) scan.marks.class scan.marks.count
+
+-- and what is known of the character that comes next
+pub record ReachesEnd (f : Form) (text : List ℕ) (end : End) : Type 0 where
+  pub reaches : Reaches f text end.scan
+  pub next : IfSome end.next (IsOfFirst end.scan.rest.now)
 
 -- the character after it, if there is one, is not known to go on
 abbrev pub Ends : Form → Scan → Type 0

@@ -31,11 +31,20 @@ pub(crate) struct Scan<'t> {
     pub marks: Marks,
 }
 
+/// Where a span ends.
+#[derive(Clone, Copy)]
+pub(crate) struct End<'t> {
+    pub scan: Scan<'t>,
+    /// The entry of the character that comes next, if there is one.
+    pub next: Option<Entry>,
+}
+
 impl<'t> Scan<'t> {
-    ghost use Rattle.std.specs.Prelude.{◌≡◌, ◌<◌, ◌≤◌, ℕ, false, List, length, slice_index, IfSome, IsNone};
+    ghost use Rattle.std.specs.Prelude.{◌≡◌, ◌<◌, ◌≤◌, ℕ, false, List, length, slice_index, IfSome, IfOk, IfErr, IsErr};
+    ghost use Rattle.nf_entry.specs.Entry.{IsOfFirst};
     ghost use Rattle.nf_forms.specs.declared.form.Form.{Form};
     ghost use Rattle.nf_span.specs.Closer.{look_at};
-    ghost use Rattle.nf_span.specs.Scan.{form_of, Reaches, Ends};
+    ghost use Rattle.nf_span.specs.Scan.{form_of, Reaches, ReachesEnd, Ends};
 
     /// The front of the text.
     #[inline]
@@ -50,21 +59,24 @@ impl<'t> Scan<'t> {
 
     /// As far as the text is known to go on as a span, in the form of this number: each form has a copy of the loop of its own.
     /// Bytes are asked together where that is likely to pay: not after a character of which they told nothing.
-    pub fn to_end<const FORM: usize>(self) -> Scan<'t>
-        ensures ends { Ends (form_of FORM) result }
-        ensures span { (text : List ℕ) → Reaches (form_of FORM) text self.entry → Reaches (form_of FORM) text result }
+    pub fn to_end<const FORM: usize>(text: &'t str) -> End<'t>
+        ensures ends { Ends (form_of FORM) result.scan }
+        ensures span { ReachesEnd (form_of FORM) text.now result }
     {
         let form = form_of(FORM);
-        let mut scan = self.over_blocks(form);
+        let mut scan = Scan::new(text).over_blocks(form);
         let mut pays = true;
-        while let Some(next) = scan.step(form) {
+        loop {
+            let next = match scan.step(form) {
+                Ok(next) => next,
+                Err(next) => return End { scan, next },
+            };
             scan = next;
             if pays || next.is_after_marks() || next.is_before_plain(form) {
                 scan = next.over_plain(form);
                 pays = scan.rest.len() < next.rest.len();
             }
         }
-        scan
     }
 
     /// Whether it stands after a mark, and no byte comes next that begins a mark of U+0300 to U+037F.
@@ -124,19 +136,25 @@ impl<'t> Scan<'t> {
         }
     }
 
-    /// After the next character, where the text goes on as a span with it.
+    /// After the next character, where the text goes on as a span with it; else the entry of that, if there is one.
     #[inline(always)]
-    fn step(self, form: Form) -> Option<Scan<'t>>
-        ensures span { IfSome result (λ next. (text : List ℕ) → Reaches form text self.entry → Reaches form text next) }
-        ensures stops { IsNone result → Ends form self.entry }
-        ensures shorter { IfSome result (λ next. length next.rest.now < length self.entry.rest.now) }
+    fn step(self, form: Form) -> Result<Scan<'t>, Option<Entry>>
+        ensures span { IfOk result (λ next. (text : List ℕ) → Reaches form text self.entry → Reaches form text next) }
+        ensures shorter { IfOk result (λ next. length next.rest.now < length self.entry.rest.now) }
+        ensures stops { IsErr result → Ends form self.entry }
+        ensures next { (text : List ℕ) → Reaches form text self.entry → IfErr result (λ next. IfSome next (IsOfFirst self.entry.rest.now)) }
     {
         let mut chars = self.rest.chars();
-        let c = chars.next()?;
-        let marks = self.marks.after(form, c, Entry::of(c))?;
-        Some(Scan {
-            rest: chars.as_str(),
-            marks,
-        })
+        let Some(c) = chars.next() else {
+            return Err(None);
+        };
+        let known = Entry::of(c);
+        match self.marks.after(form, c, known) {
+            Some(marks) => Ok(Scan {
+                rest: chars.as_str(),
+                marks,
+            }),
+            None => Err(Some(known)),
+        }
     }
 }

@@ -23,6 +23,8 @@ pub struct SpanText<'t> {
     pub span: &'t str,
     /// What stands after it.
     pub rest: &'t str,
+    /// The entry of the first character of that, where it was looked up.
+    pub next: Option<Entry>,
 }
 
 impl<'t> SpanText<'t> {

@@ -1,7 +1,8 @@
 -- The next text of a piece.
-use Rattle.nf_utf8.proofs.Common.{◌≡◌, ℕ, suc, ◌+◌, ◌==◌, ◌<◌, ◌≤◌, Bool, true, List, [], ◌∷◌, ◌++◌, length, take, drop, inl, inr, refl, ap, arith, nat_tests, append_assoc, append-nil, length-append, length-take-le, take-append-drop, take-append-add, drop-append-add, drop_all, encode_utf8, chars, chars-nil, IsUtf8, IsUtf8-encode, width_is, IsScalar, IsBad, text_len, ending_of, replacement, replacement_bytes, subpart_end, IsFront, BadFront, IsLeft, ReadsNext}
+use Rattle.nf_utf8.proofs.Common.{◌≡◌, ℕ, suc, ◌+◌, ◌==◌, ◌<◌, ◌≤◌, Bool, true, List, [], ◌∷◌, ◌++◌, length, take, drop, inl, inr, refl, ap, arith, nat_tests, append_assoc, append-nil, length-append, length-take-le, take-append-drop, take-append-add, drop-append-add, drop_all, drop-drop, drop-append-le, encode_utf8, chars, chars-nil, IsUtf8, IsUtf8-encode, width_is, IsScalar, IsBad, text_len, ending_of, replacement, replacement_bytes, subpart_end, IsFront, BadFront, IsLeft, IsStretch, ReadsNext}
 use Rattle.std.specs.Prelude.{if◌then◌else◌}
-use Rattle.nf_utf8.proofs.LeftLemmas.{IsLeft-all, IsLeft-text, IsLeft-bad}
+use Rattle.std.proofs.Math.Nat.{zero-add}
+use Rattle.nf_utf8.proofs.LeftLemmas.{IsLeft-all, IsLeft-more, IsLeft-join, IsLeft-text, IsLeft-bad}
 use Rattle.nf_utf8.proofs.ReplacingLemmas.{replacement-chars}
 use Rattle.nf_utf8.proofs.StandingLemmas.{text_of-none, chars_of_one, ill_formed_at}
 
@@ -76,3 +77,14 @@ module _ (held piece : List ℕ) where
         less = λ _. bad-some.0;
         alone = inr (rw replacement-chars (omega arith));
       }
+
+-- a text, and the ill-formed part that the bytes after it begin with
+pub part_is : (bytes : List ℕ) (text k at back len : ℕ) → IsUtf8 (take text bytes) → text ≤ length bytes → IsFront [] (take k (drop text bytes)) (BadFront at back) → len ≡ (if back == 0 then at + 1 else at)
+    → IsStretch bytes (record { text = text; len = text + len })
+part_is bytes text k at back len u within is is_len =
+    let rest : List ℕ = drop text bytes in
+    let piece : List ℕ = take k rest in
+    let some = bad-some [] piece at back is len is_len in
+    let front = rw (take-append-drop text bytes, length-take-le text bytes within) at (IsLeft-text (take text bytes) u true rest) in
+    let part = rw (← drop-append-le len piece (drop k rest) some.1, take-append-drop k rest, zero-add) at (IsLeft-more (drop k rest) (bad-left [] piece at back is len is_len)) in
+    record { within = within; utf8 = u; part = omega (arith, some.0); front = rw drop-drop at (IsLeft-join front part) }

@@ -13,3 +13,4 @@ pub mod Pushes
 pub mod Replaced
 pub mod Left
 pub mod Lossy
+pub mod Room

@@ -11,6 +11,7 @@ const BLOCK: usize = 64;
 const SMALL_BLOCK: usize = 16;
 
 /// The length in bytes of the longest prefix of bytes below 80 (hexadecimal).
+#[inline(always)]
 pub fn ascii_prefix(bytes: &[u8]) -> usize
     ensures within { result ≤ length bytes.now }
     ensures ascii { IsAscii (take result bytes.now) }

@@ -66,7 +66,7 @@ impl Carry {
     }
 
     /// What `byte` tells after these.
-    #[inline]
+    #[inline(always)]
     pub fn step(self, byte: u8) -> Step
         requires { IsSubpart (bytes_of self) }
         ensures { Tells (bytes_of self) byte result }
@@ -80,7 +80,7 @@ impl Carry {
     }
 
     /// The bytes of a begun character once `byte` has told this step.
-    #[inline]
+    #[inline(always)]
     pub fn after(self, byte: u8, step: Step) -> Carry
         requires { Tells (bytes_of self) byte step }
         ensures { bytes_of result ≡ subpart_after (bytes_of self) byte step }
@@ -97,7 +97,7 @@ impl Carry {
     }
 
     /// What `bytes` tell after these, up to the byte that completes the character or is bad.
-    #[inline]
+    #[inline(always)]
     pub fn front(self, bytes: &[u8]) -> Front
         requires { IsSubpart (bytes_of self) }
         ensures { IsFront (bytes_of self) bytes.now result }

@@ -7,7 +7,7 @@ ghost use Rattle.nf_utf8.specs.Tells.{Tells};
 
 use crate::step::Step;
 
-#[inline]
+#[inline(always)]
 pub fn first(byte: u8) -> Step
     ensures { Tells [] byte result }
 {
@@ -39,7 +39,7 @@ pub fn is_lead_of_four(a: u8, b: u8, c: u8) -> bool
     matches!(a, 0xF0..=0xF4) && is_second(a, b) && is_continuation(c)
 }
 
-#[inline]
+#[inline(always)]
 pub fn second(a: u8, byte: u8) -> Step
     requires { IsSubpart (a ∷ []) }
     ensures { Tells (a ∷ []) byte result }
@@ -53,7 +53,7 @@ pub fn second(a: u8, byte: u8) -> Step
     }
 }
 
-#[inline]
+#[inline(always)]
 pub fn third(a: u8, b: u8, byte: u8) -> Step
     requires { IsSubpart (a ∷ b ∷ []) }
     ensures { Tells (a ∷ b ∷ []) byte result }
@@ -67,7 +67,7 @@ pub fn third(a: u8, b: u8, byte: u8) -> Step
     }
 }
 
-#[inline]
+#[inline(always)]
 pub fn fourth(a: u8, b: u8, c: u8, byte: u8) -> Step
     requires { IsSubpart (a ∷ b ∷ c ∷ []) }
     ensures { Tells (a ∷ b ∷ c ∷ []) byte result }
@@ -79,7 +79,7 @@ pub fn fourth(a: u8, b: u8, c: u8, byte: u8) -> Step
     }
 }
 
-#[inline]
+#[inline(always)]
 fn is_second(first: u8, byte: u8) -> bool
     ensures { IsTrue result ↔ IsSecond first byte }
 {
@@ -93,14 +93,14 @@ fn is_second(first: u8, byte: u8) -> bool
         }
 }
 
-#[inline]
+#[inline(always)]
 pub fn is_continuation(byte: u8) -> bool
     ensures { IsTrue result ↔ IsContinuation byte }
 {
     matches!(byte, 0x80..=0xBF)
 }
 
-#[inline]
+#[inline(always)]
 fn char_of_two(a: u8, b: u8) -> char
     requires first { IsInRange 0xC2 0xDF a }
     requires second { IsContinuation b }
@@ -110,7 +110,7 @@ fn char_of_two(a: u8, b: u8) -> char
     char::from_u32(code).unwrap()
 }
 
-#[inline]
+#[inline(always)]
 fn char_of_three(a: u8, b: u8, c: u8) -> char
     requires first { IsInRange 0xE0 0xEF a }
     requires second { IsSecond a b }
@@ -123,7 +123,7 @@ fn char_of_three(a: u8, b: u8, c: u8) -> char
     char::from_u32(code).unwrap()
 }
 
-#[inline]
+#[inline(always)]
 fn char_of_four(a: u8, b: u8, c: u8, d: u8) -> char
     requires first { IsInRange 0xF0 0xF4 a }
     requires second { IsSecond a b }

@@ -133,12 +133,42 @@ fn long_text_is_left(rt: HostRuntime) -> Result<(), Fail> {
     Ok(())
 }
 
+/// Latin-1 bytes, each an ill-formed part by itself, and parts after ASCII, after a letter and after ASCII that is long.
+#[test]
+fn parts_after_a_little_ascii_are_replaced(rt: HostRuntime) -> Result<(), Fail> {
+    let alloc = rt.alloc();
+    for (bytes, text) in [
+        (
+            b"\xE9t\xE9, na\xEFf".as_slice(),
+            "\u{FFFD}t\u{FFFD}, na\u{FFFD}f",
+        ),
+        (b"a\x80bc\x80", "a\u{FFFD}bc\u{FFFD}"),
+        (b"\xF0\x80\xE0\xA0", "\u{FFFD}\u{FFFD}\u{FFFD}"),
+        (b"a\xF0\x90\x80b\xC3\xA9\x80", "a\u{FFFD}b\u{E9}\u{FFFD}"),
+        (b"\xF0\x9F\x98\x80\xBF", "\u{1F600}\u{FFFD}"),
+        (
+            b"some forty letters and no other byte \xC3",
+            "some forty letters and no other byte \u{FFFD}",
+        ),
+    ] {
+        let mut all: Vec<u8> = Vec::new(alloc);
+        for _ in 0..20 {
+            all.extend_from_slice(bytes)?;
+        }
+        all.extend_from_slice(b"\xFF")?;
+        let lossy = text.repeat(alloc, 20)?;
+        let lossy = format!(in alloc; "{lossy}\u{FFFD}")?;
+        check(&rt, all.as_slice(), lossy.as_str(), all.len());
+    }
+    Ok(())
+}
+
 /// No more is replaced than there is room for.
 #[test]
 fn the_room_is_filled(rt: HostRuntime) -> Result<(), Fail> {
     let alloc = rt.alloc();
     let bytes: Vec<u8> = vec![in alloc; 0xFF; 400]?;
-    let full = "\u{FFFD}".repeat(alloc, 341)?;
-    check(&rt, bytes.as_slice(), full.as_str(), 341);
+    let full = "\u{FFFD}".repeat(alloc, 320)?;
+    check(&rt, bytes.as_slice(), full.as_str(), 320);
     Ok(())
 }

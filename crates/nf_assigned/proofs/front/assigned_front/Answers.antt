@@ -1,7 +1,8 @@
 use Rattle.std.proofs.lemmas.List.Sums.{list_all-from_AllPass}
 use Rattle.nf_forms.specs.Ucd.{is_assigned}
 use Rattle.nf_lanes.proofs.LooksLemmas.{told_front}
-use Rattle.nf_assigned.specs.Bytes.{By, finds}
+use Rattle.nf_assigned.specs.declared.lanes.By.{By}
+use Rattle.nf_assigned.specs.Bytes.{finds}
 use Rattle.nf_assigned.proofs.ToldLemmas.{tells}
 use Rattle.nf_assigned.proofs.front.assigned_front.Goals as goal
 

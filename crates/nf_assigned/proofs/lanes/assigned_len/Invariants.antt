@@ -6,7 +6,7 @@ abbrev pub invariant-loop-at : goal.invariant-loop-at
 invariant-loop-at l = record {
   within : l.at ≤ length l.bytes;
   told : AreTold l.bytes l.at;
-  few : l.pause ≤ 15;
+  few : l.windows ≤ 63;
 }
 
 abbrev pub decreases-loop-at : goal.decreases-loop-at
