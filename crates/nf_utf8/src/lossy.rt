@@ -126,15 +126,19 @@ fn put_stretch(bytes: &[u8], room: &mut [u8; ROOM], at: usize) -> Option<Stretch
     ensures some { IfSome result (λ stretch. IsPut bytes.now room.old at stretch room.new) }
     ensures none { IsNone result → room.new ≡ room.old }
 {
-    if bytes.len() >= NEAR + 8 {
-        if let Some(stretch) = ascii_stretch(bytes) {
-            // More bytes are copied than are kept: so many at once cost least.
-            put_lanes(room, at, bytes);
-            put_replacement(room, at + stretch.text);
-            return Some(stretch);
-        }
+    if bytes.len() < NEAR + 8 {
+        return put_short(bytes, room, at);
     }
-    let stretch = put_short(bytes, room, at)?;
+    let ascii = near_ascii(bytes);
+    if ascii == NEAR {
+        return None;
+    }
+    let Some(stretch) = ascii_stretch(bytes, ascii) else {
+        return put_short(bytes, room, at);
+    };
+    // More bytes are copied than are kept: so many at once cost least.
+    put_lanes(room, at, bytes);
+    put_replacement(room, at + stretch.text);
     Some(stretch)
 }
 
@@ -151,14 +155,15 @@ fn put_short(bytes: &[u8], room: &mut [u8; ROOM], at: usize) -> Option<Stretch>
     Some(stretch)
 }
 
-/// A short stretch whose text is ASCII, and maybe one other character at its end.
+/// A short stretch whose text is so many bytes of ASCII, and maybe one other character.
 #[inline(always)]
-fn ascii_stretch(bytes: &[u8]) -> Option<Stretch>
-    requires { 72 ≤ length bytes.now }
+fn ascii_stretch(bytes: &[u8], ascii: usize) -> Option<Stretch>
+    requires room { 72 ≤ length bytes.now }
+    requires few { ascii ≤ 64 }
+    requires utf8 { IsUtf8 (take ascii bytes.now) }
     ensures is { IfSome result (λ stretch. IsStretch bytes.now stretch) }
     ensures few { IfSome result (λ stretch. stretch.text ≤ 64) }
 {
-    let ascii = near_ascii(bytes);
     match Carry::Empty.front(&bytes[ascii..ascii + 4]) {
         Front::Bad { at, .. } => Some(Stretch {
             text: ascii,
