@@ -1,5 +1,6 @@
 pub mod ScanLemmas
 pub mod CutLemmas
+pub mod WindowLemmas
 pub mod LookLemmas
 pub mod ToldLemmas
 pub mod PlainLemmas

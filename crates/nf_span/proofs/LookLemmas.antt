@@ -1,20 +1,34 @@
 -- Where bytes tell of a character, and where one begins.
-use Rattle.std.proofs.Common.{◌≡◌, ℕ, ◌+◌, ◌/◌, ◌<◌, ◌≤◌, Bool, true, false, not, ◌&&◌, ◌||◌, ◌==◌, List, get_or, bit_and, bit_or, refl, sym, ap, ◌∙◌, arith, eqb-true}
-use Rattle.std.proofs.lemmas.Bool.{cond-true, cond-false, cond_both}
+use Rattle.std.proofs.Common.{◌≡◌, inl, inr, ℕ, ◌+◌, ◌/◌, ◌<◌, ◌≤◌, Bool, true, false, not, ◌&&◌, ◌==◌, List, length, drop, get_or, bit_and, bit_or, cond, refl, sym, ap, ◌∙◌, arith, eqb-true}
+use Rattle.std.specs.Int.{bit_at}
+use Rattle.std.proofs.lemmas.List.{get_or-drop, length-drop}
 use Rattle.std.proofs.lemmas.Nat.{and_le_l, le_or_l, le_or_r}
+use Rattle.std.proofs.lemmas.Nat.Bits.{bit_at_above}
 use Rattle.ucd_table.proofs.TrieCheck.{all_below, all_below-at}
 use Rattle.nf_forms.specs.declared.form.Form.{Form}
 use Rattle.nf_forms.specs.declared.form.Form.TheVariants.{Nfc}
-use Rattle.nf_lanes.specs.Lanes.{StopsAt}
+use Rattle.nf_lanes.specs.Lanes.{bits_at}
 use Rattle.nf_lanes.specs.Sets.{byte_sets, pair_sets, triple_sets}
 use Rattle.nf_lanes.specs.declared.sets.Pairs.{Pairs}
 use Rattle.nf_lanes.specs.declared.sets.Triples.{Triples}
+use Rattle.nf_lanes.proofs.PlacesLemmas.{bit_of, bits_at-below}
 use Rattle.nf_span.specs.Leads.{lead_bits, wants_look}
-use Rattle.nf_span.specs.Closer.{pairs_of, triples_of, wants_pair, wants_triple, wants_triples, kana_of, wide_of, asked_of, look_at, IsPlainRun}
+use Rattle.nf_span.specs.Closer.{pairs_of, triples_of, wants_pair, wants_triple, wants_triples, kana_of, wide_of, look_at, IsOfForm}
+use Rattle.nf_span.specs.Window.{IsWindow}
+use Rattle.nf_span.specs.declared.window.Window.{Window}
+use Rattle.nf_span.proofs.WindowLemmas.{look_at-drop}
 
 -- neither number has a bit
 pub no_bits : (x y : ℕ) → not (bit_or x y == 0) ≡ false → (x ≡ 0) × (y ≡ 0)
 no_bits x y none = (grind (arith, le_or_l x y), grind (arith, le_or_r x y))
+
+unset : (b : Bool) → ◌≡◌ {A = ℕ} (cond b 1 0) 0 → b ≡ false
+unset false _ = refl
+unset true e = absurd (omega (arith, e))
+
+is_set : (b : Bool) → ◌≡◌ {A = ℕ} (cond b 1 0) 1 → b ≡ true
+is_set true _ = refl
+is_set false e = absurd (omega (arith, e))
 
 -- no set has a pair that begins with a byte below C0
 abbrev HasNoLead : Pairs → Type 0
@@ -25,17 +39,6 @@ no_sets t rows lead next small =
     let none = all_below-at (λ h. get_or t.first_high h 0 == 0) 12 (lead / 16) rows in
     let first = and_le_l (get_or t.first_high (lead / 16) 0) (get_or t.first_low (bit_and lead 15) 0) in
     grind (arith, none, first, and_le_l (byte_sets t.first_high t.first_low lead) (byte_sets t.next_high t.next_low next))
-
--- what holds of all the sets holds of those that are asked
-asked_each : (f : Form) (lead : ℕ) (P : Triples → Type 0) → P (kana_of f) → P (wide_of f) → P (triples_of f) → P (asked_of f lead)
-asked_each f lead P kana wide others = cond_both (lead == 0xE2 || lead == 0xE3) _ _ P (λ _. kana) (λ _. cond_both (lead == 0xEF) _ _ P (λ _. wide) (λ _. others))
-
--- those that are asked for the sake of E2 and E3, and of a lead byte with no sets of its own
-pub asked_of-kana : (f : Form) (lead : ℕ) → (lead == 0xE2 || lead == 0xE3) ≡ true → kana_of f ≡ asked_of f lead
-asked_of-kana f lead kana = sym (cond-true _ _ _ kana)
-
-pub asked_of-others : (f : Form) (lead : ℕ) → (lead == 0xE2 || lead == 0xE3) ≡ false → (lead == 0xEF) ≡ false → triples_of f ≡ asked_of f lead
-asked_of-others f lead kana wide = sym (cond-false _ _ _ kana ∙ cond-false _ _ _ wide)
 
 -- the tables have nothing for a byte that is no lead byte
 record NoLead (f : Form) : Type 0 where
@@ -77,18 +80,29 @@ module _ (f : Form) where
     pub told_by_lead : (k : ℕ) → wants_look f (get_or bytes k 0) ≡ false → look_at f bytes k ≡ false
     told_by_lead k e = ap (λ b. b && (pair_at k && triples_at k)) e
 
-    -- how far a test tells
-    module _ (at run : ℕ) where
-      by_test : (test : ℕ → Bool) → ((k : ℕ) → test k ≡ false → look_at f bytes k ≡ false) → ((k : ℕ) → test k ≡ true → 192 ≤ get_or bytes k 0) → StopsAt test at run → IsPlainRun f bytes at run
-      by_test test told begins here = record { within = here.within; plain = λ k low high. told k (here.none k low high); begins = λ short. begins (at + run) (here.stops short) }
+    -- what the bits of a test tell
+    module _ (at : ℕ) (room : at + 16 ≤ length bytes) where
+      by_test : (test : ℕ → Bool) → ((k : ℕ) → test k ≡ false → look_at f bytes k ≡ false) → ((k : ℕ) → test k ≡ true → 192 ≤ get_or bytes k 0)
+          → (window : Window) → window.looks ≡ bits_at test at → window.len ≡ 16 → IsWindow f (drop at bytes) window
+      by_test test told begins window is long =
+          let bit : (k : ℕ) → k < 16 → bit_at window.looks k ≡ cond (test (at + k)) 1 0 = λ k. bit_of test at window.looks k (at + k) is refl in
+          record {
+            within = omega (arith, long, room, length-drop at bytes);
+            plain = λ k inside none. look_at-drop f bytes at k ∙ told (at + k) (unset _ (sym (bit k (omega (arith, inside, long))) ∙ none));
+            begins = λ k one.
+                let below : window.looks < 65536 = rw is (bits_at-below test at) in
+                let few : k < 16 = grind (arith, one, bit_at_above window.looks 16 k below) in
+                (omega (arith, few, long), rw (get_or-drop at bytes k 0) (begins (at + k) (is_set _ (sym (bit k few) ∙ one))));
+          }
 
-      pub by_lead : StopsAt (λ k. wants_look f (get_or bytes k 0)) at run → IsPlainRun f bytes at run
+      pub by_lead : (window : Window) → window.looks ≡ bits_at (λ k. wants_look f (get_or bytes k 0)) at → window.len ≡ 16 → IsWindow f (drop at bytes) window
       by_lead = by_test _ told_by_lead (λ k. lead_begins (get_or bytes k 0))
 
-      pub by_pair : StopsAt pair_at at run → IsPlainRun f bytes at run
+      pub by_pair : (window : Window) → window.looks ≡ bits_at pair_at at → window.len ≡ 16 → IsWindow f (drop at bytes) window
       by_pair = by_test pair_at (λ k none. grind arith) (λ k. begins_with (get_or bytes k 0) _ 13 (no_sets (pairs_of f) (no_lead f).pairs _ (get_or bytes (k + 1) 0)))
 
-      by_triple_in : (t : Triples) → HasNoLead t.pairs → ((k : ℕ) → triple_at t k ≡ false → look_at f bytes k ≡ false) → StopsAt (triple_at t) at run → IsPlainRun f bytes at run
+      by_triple_in : (t : Triples) → HasNoLead t.pairs → ((k : ℕ) → triple_at t k ≡ false → look_at f bytes k ≡ false)
+          → (window : Window) → window.looks ≡ bits_at (triple_at t) at → window.len ≡ 16 → IsWindow f (drop at bytes) window
       by_triple_in t rows told =
           by_test (triple_at t) told (λ k.
           let lead = get_or bytes k 0 in
@@ -96,9 +110,7 @@ module _ (f : Form) where
           begins_with lead (triple_sets t lead next (get_or bytes (k + 2) 0)) 11
           (λ small. omega (arith, no_sets t.pairs rows lead next small, and_le_l (pair_sets t.pairs lead next) (byte_sets t.last_high t.last_low (get_or bytes (k + 2) 0)))))
 
-      pub by_triple : (lead : ℕ) → StopsAt (triple_at (asked_of f lead)) at run → IsPlainRun f bytes at run
-      by_triple lead =
-          asked_each f lead (λ t. StopsAt (triple_at t) at run → IsPlainRun f bytes at run)
-          (by_triple_in (kana_of f) (no_lead f).kana (λ k none. grind arith))
-          (by_triple_in (wide_of f) (no_lead f).wide (λ k none. grind arith))
-          (by_triple_in (triples_of f) (no_lead f).triples (λ k none. grind arith))
+      pub by_triple : (t : Triples) → IsOfForm f t → (window : Window) → window.looks ≡ bits_at (triple_at t) at → window.len ≡ 16 → IsWindow f (drop at bytes) window
+      by_triple t (inl kana) = by_triple_in t (rw kana (no_lead f).kana) (λ k none. grind (arith, kana))
+      by_triple t (inr (inl wide)) = by_triple_in t (rw wide (no_lead f).wide) (λ k none. grind (arith, wide))
+      by_triple t (inr (inr others)) = by_triple_in t (rw others (no_lead f).triples) (λ k none. grind (arith, others))

@@ -1,5 +1,7 @@
 -- A span goes on after a piece of the text.
-use Rattle.std.proofs.Common.{◌≡◌, ℕ, List, [], ◌∷◌, ◌++◌, refl, sym, ap, ◌∙◌, append_assoc, append-nil}
+use Rattle.std.proofs.Common.{◌≡◌, ℕ, ◌+◌, ◌-◌, List, [], ◌∷◌, ◌++◌, length, drop, refl, sym, ap, subst, ◌∙◌, arith, append_assoc, append-nil, length-append}
+use Rattle.std.proofs.Math.Seq.{drop-append_seam}
+use Rattle.std.proofs.str.Classes.{width_is}
 use Rattle.std.specs.Prelude.{chars, encode_utf8, IsUtf8}
 use Rattle.std.proofs.lemmas.Str.{chars-append, chars_from_encodes, chars_past_char, IsUtf8-append, IsUtf8-encode}
 use Rattle.std.specs.Char.{IsScalar}
@@ -10,7 +12,9 @@ use Rattle.nf_forms.specs.Ucd.{ucd}
 use Rattle.nf_entry.specs.Entry.{IsEntry, IsOfFirst}
 use Rattle.nf_entry.specs.declared.entry.Entry.{Entry}
 use Rattle.nf_span.specs.declared.scan.Scan.{Scan}
-use Rattle.nf_span.specs.Scan.{Reaches}
+use Rattle.nf_span.specs.Scan.{Reaches, IsAfterCharacter}
+use Rattle.nf_span.specs.Window.{IsWindow}
+use Rattle.nf_span.specs.declared.window.Window.{Window}
 
 module _ (p : Properties) (f : Form) where
   pub span_from-append : (k n : ℕ) (xs : List ℕ) (class count : ℕ) → IsSpanFrom p f k n xs class count → (ys : List ℕ) (class' count' : ℕ) → IsSpanFrom p f class count ys class' count'
@@ -40,3 +44,15 @@ module _ {f : Form} {text : List ℕ} {scan next : Scan} (here : Reaches f text 
 -- what is known of the character that a text begins with
 pub of_first : (text after : List ℕ) (c : ℕ) (entry : Entry) → IsUtf8 text → text ≡ encode_utf8 c ++ after → IsEntry c entry → IsOfFirst text entry
 of_first text after c entry u e known = record { first = c; others = chars after; begins = chars_past_char text after c u e; is_entry = known }
+
+-- one character stands before the rest
+pub after_character : (text rest : List ℕ) (c : ℕ) → text ≡ encode_utf8 c ++ rest → IsAfterCharacter text rest
+after_character text rest c e =
+    let width = width_is c in
+    let both : length text ≡ length (encode_utf8 c) + length rest = ap length e ∙ length-append (encode_utf8 c) rest in
+    let long : length text - length rest ≡ length (encode_utf8 c) = omega (arith, both) in
+    record { shorter = omega (arith, both, width); few = omega (arith, both, width); after = rw (long, e) (sym (drop-append_seam (encode_utf8 c) rest)) }
+
+-- what is left of a window then
+pub window_past : {f : Form} {text rest : List ℕ} → IsAfterCharacter text rest → (left : Window) → IsWindow f (drop (length text - length rest) text) left → IsWindow f rest left
+window_past {f} here left window = subst (λ t. IsWindow f t left) (sym here.after) window

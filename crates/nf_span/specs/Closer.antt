@@ -1,8 +1,7 @@
 -- What the bytes after a lead byte tell (The Unicode Standard, section 3.9, Table 3-6).
-use Rattle.std.specs.Prelude.{◌<◌, ◌≤◌, ℕ, ◌+◌, Bool, not, ◌&&◌, ◌||◌, ◌==◌, List, slice_index, bit_and, bit_or, if◌then◌else◌}
+use Rattle.std.specs.Prelude.{◌≡◌, ◌⊎◌, ℕ, ◌+◌, Bool, not, ◌&&◌, ◌==◌, List, slice_index, bit_and, bit_or}
 use Rattle.nf_forms.specs.declared.form.Form.{Form}
 use Rattle.nf_forms.specs.declared.form.Form.TheVariants.{Nfc, Nfd, Nfkc, Nfkd}
-use Rattle.nf_lanes.specs.Lanes.{NonePass}
 use Rattle.nf_lanes.specs.Sets.{pair_sets, triple_sets}
 use Rattle.nf_lanes.specs.declared.sets.Pairs.{Pairs}
 use Rattle.nf_lanes.specs.declared.sets.Triples.{Triples}
@@ -37,9 +36,9 @@ wide_of Nfkc = COMPATIBILITY_WIDE
 wide_of Nfd = NFD_WIDE
 wide_of Nfkd = COMPATIBILITY_WIDE
 
--- the one that is asked for the sake of a lead byte
-abbrev pub asked_of : Form → ℕ → Triples
-asked_of f lead = if lead == 0xE2 || lead == 0xE3 then kana_of f else (if lead == 0xEF then wide_of f else triples_of f)
+-- sets that are asked in a form
+abbrev pub IsOfForm : Form → Triples → Type 0
+IsOfForm f t = (t ≡ kana_of f) ⊎ ((t ≡ wide_of f) ⊎ (t ≡ triples_of f))
 
 -- a character that begins with these bytes has to be looked up: where the lead byte is not of D0 to DF it tells by itself,
 -- its row being another than 2
@@ -59,9 +58,3 @@ abbrev pub look_at : Form → List ℕ → ℕ → Bool
 look_at f bytes k =
     wants_look f (slice_index bytes k)
     && (wants_pair f (slice_index bytes k) (slice_index bytes (k + 1)) && wants_triples f (slice_index bytes k) (slice_index bytes (k + 1)) (slice_index bytes (k + 2)))
-
--- of the 16 bytes from one on none before run begins a character that has to be looked up; there a lead byte stands
-pub record IsPlainRun (f : Form) (bytes : List ℕ) (at run : ℕ) : Type 0 where
-  pub within : run ≤ 16
-  pub plain : NonePass (look_at f bytes) at run
-  pub begins : run < 16 → 192 ≤ slice_index bytes (at + run)

@@ -1,5 +1,5 @@
 -- A place in a text whose front, up to there, is a span.
-use Rattle.std.specs.Prelude.{◌≡◌, ◌==◌, if◌then◌else◌, ℕ, false, List, ◌∷◌, ◌++◌, chars, IsUtf8, IfSome}
+use Rattle.std.specs.Prelude.{◌≡◌, ◌<◌, ◌≤◌, ◌+◌, ◌-◌, ◌==◌, if◌then◌else◌, ℕ, false, List, ◌∷◌, ◌++◌, chars, drop, length, IsUtf8, IfSome}
 use Rattle.nf_forms.specs.declared.form.Form.{Form}
 use Rattle.nf_forms.specs.declared.form.Form.TheVariants.{Nfc, Nfd, Nfkc, Nfkd}
 use Rattle.nf_forms.specs.Span.{IsSpan}
@@ -24,6 +24,12 @@ pub record Reaches (f : Form) (text : List ℕ) (scan : Scan) : Type 0 where
 pub record ReachesEnd (f : Form) (text : List ℕ) (end : End) : Type 0 where
   pub reaches : Reaches f text end.scan
   pub next : IfSome end.next (IsOfFirst end.scan.rest.now)
+
+-- one character of 1 to 4 bytes stands before it
+pub record IsAfterCharacter (whole rest : List ℕ) : Type 0 where
+  pub shorter : length rest < length whole
+  pub few : length whole ≤ length rest + 4
+  pub after : rest ≡ drop (length whole - length rest) whole
 
 -- the character after it, if there is one, is not known to go on
 abbrev pub Ends : Form → Scan → Type 0

@@ -4,7 +4,7 @@ ghost use Rattle.nf_forms.specs.Ucd.{ucd};
 ghost use Rattle.nf_span.specs.Front.{IsSpanText};
 ghost use Rattle.nf_span.specs.Scan.{ReachesEnd, Ends};
 
-use crate::lanes::near_len;
+use crate::lanes::near_look;
 use crate::scan::{End, Scan};
 use crate::span::SpanText;
 use nf_facts::laws;
@@ -26,12 +26,12 @@ pub fn near_text(form: Form, text: &str) -> Option<SpanText<'_>>
     ensures next { IfSome result (λ near. IfSome near.next (IsOfFirst near.rest.now)) }
 {
     let begin = Scan::new(text);
-    let len = near_len(form, begin.rest.as_bytes())?;
-    if len == 0 {
+    let near = near_look(form, begin.rest.as_bytes())?;
+    if near.len == 0 {
         return None;
     }
     let end = End {
-        scan: begin.past(form, len),
+        scan: begin.past(form, near.len),
         next: None,
     };
     Some(text_before(form, text, end))

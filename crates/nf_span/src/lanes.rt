@@ -1,15 +1,17 @@
-ghost use Rattle.std.specs.Prelude.{◌≡◌, ◌<◌, ◌≤◌, ◌+◌, ℕ, false, length, slice_index, map, IfSome};
-ghost use Rattle.nf_lanes.specs.Lanes.{places, bits_at};
-ghost use Rattle.nf_span.specs.Leads.{lead_bits, wants_look};
-ghost use Rattle.nf_span.specs.Closer.{wants_pair, wants_triple, asked_of, look_at, IsPlainRun};
+ghost use Rattle.std.specs.Prelude.{◌≡◌, ◌≤◌, ◌+◌, drop, length, slice_index, map, IfSome, IfOk, IfErr};
+ghost use Rattle.nf_lanes.specs.Lanes.{places};
+ghost use Rattle.nf_span.specs.Leads.{lead_bits};
+ghost use Rattle.nf_span.specs.Closer.{IsOfForm};
+ghost use Rattle.nf_span.specs.Window.{IsAhead, IsPlainFront, IsWindow};
 
 use crate::bytes::by_bytes;
 use crate::closer::{pairs_of, triples_of};
 use crate::kana::kana_of;
 use crate::leads::{ROWS, columns};
 use crate::wide::wide_of;
+use crate::window::Window;
 use nf_forms::Form;
-use nf_lanes::{LANES, Triples, before, bits, bits_of_either, byte_sets, pair_sets, triple_sets};
+use nf_lanes::{LANES, Triples, bits, bits_of_either, byte_sets, pair_sets, triple_sets};
 use std::simd::u8x16;
 
 /// The bytes that are looked at together, and the two after the last of them.
@@ -18,56 +20,82 @@ const ROOM: usize = LANES + 2;
 /// So many bytes are looked at for what is no span.
 const NEAR: usize = 128;
 
-/// How many bytes there are before the first that begins a character that has to be looked up, where there is none before
-/// `from`.
+/// The next character of a text that has to be looked up.
+#[derive(Clone, Copy)]
+pub(crate) struct Ahead {
+    /// How many bytes stand before it.
+    pub len: usize,
+    /// Bytes from there on.
+    pub window: Window,
+}
+
+/// What has to be looked up next, where nothing has to be before `from`.
 #[inline(always)]
-pub(crate) fn plain_len(form: Form, bytes: &[u8], from: usize) -> usize
-    requires within { from ≤ length bytes.now }
-    requires plain { (k : ℕ) → k < from → look_at form bytes.now k ≡ false }
-    ensures within { result ≤ length bytes.now }
-    ensures plain { (k : ℕ) → k < result → look_at form bytes.now k ≡ false }
-    ensures begins { result < length bytes.now → 192 ≤ slice_index bytes.now result }
+pub(crate) fn next_look(form: Form, bytes: &[u8], from: usize) -> Ahead
+    requires { IsPlainFront form bytes.now from }
+    ensures { IsAhead form bytes.now result }
+{
+    match look_ahead(form, bytes, from, usize::MAX, false) {
+        Ok(ahead) => ahead,
+        Err(at) => Ahead {
+            len: by_bytes(form, bytes, at),
+            window: Window::NONE,
+        },
+    }
+}
+
+/// The same, or what most likely has to be, where it is one of the next 128 bytes or so.
+#[inline(always)]
+pub(crate) fn near_look(form: Form, bytes: &[u8]) -> Option<Ahead>
+    ensures { IfSome result (IsAhead form bytes.now) }
+{
+    look_ahead(form, bytes, 0, NEAR, true).ok()
+}
+
+/// The same in the windows that begin before `to`; else how many bytes those have.
+#[inline(always)]
+fn look_ahead(
+    form: Form,
+    bytes: &[u8],
+    from: usize,
+    to: usize,
+    is_near: bool,
+) -> Result<Ahead, usize>
+    requires { IsPlainFront form bytes.now from }
+    ensures ahead { IfOk result (IsAhead form bytes.now) }
+    ensures none { IfErr result (IsPlainFront form bytes.now) }
 {
     let mut at = from;
-    while bytes.len() - at >= ROOM {
-        let run = plain_run(form, bytes, at);
-        if run < LANES {
-            return at + run;
+    while at < to && bytes.len() - at >= ROOM {
+        let window = window(form, bytes, at, is_near);
+        if let Some(run) = window.before_next() {
+            return Ok(Ahead {
+                len: at + run,
+                window: window.after(run),
+            });
         }
         at += LANES;
     }
-    by_bytes(form, bytes, at)
+    Err(at)
 }
 
-/// The same, where such a byte is one of the next 128 or so.
+/// The bytes from `at` on. Two or three are asked only where a lead byte does not tell; and not where the form most likely changes
+/// what begins with it, if it is asked for what is near.
 #[inline(always)]
-pub(crate) fn near_len(form: Form, bytes: &[u8]) -> Option<usize>
-    ensures within { IfSome result (λ len. len ≤ length bytes.now) }
-    ensures plain { IfSome result (λ len. (k : ℕ) → k < len → look_at form bytes.now k ≡ false) }
-    ensures begins { IfSome result (λ len. len < length bytes.now → 192 ≤ slice_index bytes.now len) }
-{
-    let mut at = 0;
-    while at < NEAR && bytes.len() - at >= ROOM {
-        let run = near_run(form, bytes, at);
-        if run < LANES {
-            return Some(at + run);
-        }
-        at += LANES;
-    }
-    None
-}
-
-/// How many of the bytes from `at` on stand before such a byte, or before one that most likely is.
-#[inline(always)]
-fn near_run(form: Form, bytes: &[u8], at: usize) -> usize
+fn window(form: Form, bytes: &[u8], at: usize, is_near: bool) -> Window
     requires room { at + 18 ≤ length bytes.now }
-    ensures { IsPlainRun form bytes.now at result }
+    ensures len { result.len ≡ 16 }
+    ensures window { IsWindow form (drop at bytes.now) result }
 {
-    let run = lead_run(form, bytes, at);
-    if run == LANES || is_changed(form, bytes[at + run], bytes[at + run + 1]) {
-        return run;
+    let window = lead_window(form, bytes, at);
+    let Some(run) = window.before_next() else {
+        return window;
+    };
+    let lead = bytes[at + run];
+    if is_near && is_changed(form, lead, bytes[at + run + 1]) {
+        return window;
     }
-    asked_run(form, bytes, at, run)
+    asked_window(form, lead, bytes, at)
 }
 
 /// Whether the form changes most of what begins so, of two bytes, or symbols, syllables of Hangul, letters of Latin and Greek
@@ -79,89 +107,63 @@ fn is_changed(form: Form, lead: u8, next: u8) -> bool {
             && (matches!(lead, 0xE2 | 0xEA..=0xED | 0xEF) || lead == 0xE1 && next >= 0xB8)
 }
 
-/// How many of the bytes from `at` on stand before such a byte. Two or three bytes are asked only where the lead byte
-/// does not tell.
+/// The same, where what stands after lead bytes is asked, for the sake of one: E2 and E3, of symbols and kana, and EF, of
+/// fullwidth letters, have sets of their own. Each copy has its tables at hand.
 #[inline(always)]
-fn plain_run(form: Form, bytes: &[u8], at: usize) -> usize
+fn asked_window(form: Form, lead: u8, bytes: &[u8], at: usize) -> Window
     requires room { at + 18 ≤ length bytes.now }
-    ensures { IsPlainRun form bytes.now at result }
+    ensures len { result.len ≡ 16 }
+    ensures window { IsWindow form (drop at bytes.now) result }
 {
-    let run = lead_run(form, bytes, at);
-    if run == LANES {
-        return run;
+    match lead {
+        0xD0..=0xDF => pair_window(form, bytes, at),
+        0xE2 | 0xE3 => triple_window(form, kana_of(form), bytes, at),
+        0xEF => triple_window(form, wide_of(form), bytes, at),
+        0xE0..=0xEE => triple_window(form, triples_of(form), bytes, at),
+        _ => lead_window(form, bytes, at),
     }
-    asked_run(form, bytes, at, run)
 }
 
 /// The same as far as lead bytes tell.
 #[inline(always)]
-fn lead_run(form: Form, bytes: &[u8], at: usize) -> usize
+fn lead_window(form: Form, bytes: &[u8], at: usize) -> Window
     requires room { at + 16 ≤ length bytes.now }
-    ensures { IsPlainRun form bytes.now at result }
+    ensures len { result.len ≡ 16 }
+    ensures window { IsWindow form (drop at bytes.now) result }
 {
-    let found = looks(form, bytes, at);
-    before(found)
-}
-
-/// The same, where `run` is as far as lead bytes tell, and the bytes after the next one are asked.
-#[inline(always)]
-fn asked_run(form: Form, bytes: &[u8], at: usize, run: usize) -> usize
-    requires room { at + 18 ≤ length bytes.now }
-    requires some { run < 16 }
-    requires run { IsPlainRun form bytes.now at run }
-    ensures { IsPlainRun form bytes.now at result }
-{
-    let lead = bytes[at + run];
-    match lead / 16 {
-        0xD => before(pair_looks(form, bytes, at)),
-        0xE => before(asked_looks(form, lead, bytes, at)),
-        _ => run,
+    Window {
+        looks: bits(leads(form, bytes, at)),
+        len: LANES,
     }
-}
-
-/// A bit for each byte from `at` on, the lowest for the first: whether a character that begins with it has to be looked up.
-#[inline(always)]
-fn looks(form: Form, bytes: &[u8], at: usize) -> u64
-    requires room { at + 16 ≤ length bytes.now }
-    ensures { result ≡ bits_at (λ k. wants_look form (slice_index bytes.now k)) at }
-{
-    bits(leads(form, bytes, at))
 }
 
 /// The same, where a lead byte from D0 to DF and the byte after it are asked.
 #[inline(always)]
-fn pair_looks(form: Form, bytes: &[u8], at: usize) -> u64
+fn pair_window(form: Form, bytes: &[u8], at: usize) -> Window
     requires room { at + 17 ≤ length bytes.now }
-    ensures { result ≡ bits_at (λ k. wants_pair form (slice_index bytes.now k) (slice_index bytes.now (k + 1))) at }
+    ensures len { result.len ≡ 16 }
+    ensures window { IsWindow form (drop at bytes.now) result }
 {
-    bits_of_either(
-        pair_sets(pairs_of(form), bytes, at),
-        leads(form, bytes, at),
-        13,
-    )
-}
-
-/// The same for the sake of a lead byte from E0 to EF: E2 and E3, of symbols and kana, and EF, of fullwidth letters, have sets of
-/// their own. Each copy has its tables at hand.
-#[inline(always)]
-fn asked_looks(form: Form, lead: u8, bytes: &[u8], at: usize) -> u64
-    requires room { at + 18 ≤ length bytes.now }
-    ensures { result ≡ bits_at (λ k. wants_triple (asked_of form lead) form (slice_index bytes.now k) (slice_index bytes.now (k + 1)) (slice_index bytes.now (k + 2))) at }
-{
-    match lead {
-        0xE2 | 0xE3 => triple_looks(form, kana_of(form), bytes, at),
-        0xEF => triple_looks(form, wide_of(form), bytes, at),
-        _ => triple_looks(form, triples_of(form), bytes, at),
+    let pairs = pair_sets(pairs_of(form), bytes, at);
+    Window {
+        looks: bits_of_either(pairs, leads(form, bytes, at), 13),
+        len: LANES,
     }
 }
 
-/// The same, where a lead byte from E0 to EF and the two bytes after it are asked.
+/// The same, where a lead byte from E0 to EF and the two bytes after it are asked, by sets of the form.
 #[inline(always)]
-fn triple_looks(form: Form, triples: &Triples, bytes: &[u8], at: usize) -> u64
+fn triple_window(form: Form, triples: &Triples, bytes: &[u8], at: usize) -> Window
     requires room { at + 18 ≤ length bytes.now }
-    ensures { result ≡ bits_at (λ k. wants_triple triples.now form (slice_index bytes.now k) (slice_index bytes.now (k + 1)) (slice_index bytes.now (k + 2))) at }
+    requires triples { IsOfForm form triples.now }
+    ensures len { result.len ≡ 16 }
+    ensures window { IsWindow form (drop at bytes.now) result }
 {
-    bits_of_either(triple_sets(triples, bytes, at), leads(form, bytes, at), 11)
+    let triples = triple_sets(triples, bytes, at);
+    Window {
+        looks: bits_of_either(triples, leads(form, bytes, at), 11),
+        len: LANES,
+    }
 }
 
 /// The rows in which the byte at each place from `at` on begins a character that has to be looked up.

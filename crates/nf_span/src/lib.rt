@@ -15,6 +15,7 @@ mod marks;
 mod scan;
 mod span;
 mod wide;
+mod window;
 
 pub use front::{near_text, span_text};
 pub use span::{Span, SpanText};

@@ -1,10 +1,12 @@
 ghost use Rattle.std.specs.Prelude.{◌≡◌};
 ghost use Rattle.nf_span.specs.Scan.{form_of};
+ghost use Rattle.nf_span.specs.Window.{IsPlainFront};
 
 use crate::blocks::plain_blocks;
-use crate::lanes::plain_len;
+use crate::lanes::next_look;
 use crate::leads::wants_look;
 use crate::marks::Marks;
+use crate::window::Window;
 use nf_entry::Entry;
 use nf_facts::laws;
 use nf_forms::Form;
@@ -40,16 +42,17 @@ pub(crate) struct End<'t> {
 }
 
 impl<'t> Scan<'t> {
-    ghost use Rattle.std.specs.Prelude.{◌≡◌, ◌<◌, ◌≤◌, ℕ, false, List, length, slice_index, IfSome, IfOk, IfErr, IsErr};
+    ghost use Rattle.std.specs.Prelude.{◌≡◌, ◌<◌, ℕ, List, drop, length, IfSome, IfOk, IfErr, IsErr};
     ghost use Rattle.nf_entry.specs.Entry.{IsOfFirst};
     ghost use Rattle.nf_forms.specs.declared.form.Form.{Form};
-    ghost use Rattle.nf_span.specs.Closer.{look_at};
-    ghost use Rattle.nf_span.specs.Scan.{form_of, Reaches, ReachesEnd, Ends};
+    ghost use Rattle.nf_span.specs.Scan.{form_of, Reaches, ReachesEnd, Ends, IsAfterCharacter};
+    ghost use Rattle.nf_span.specs.Window.{IsPlain, IsPlainFront, IsWindow};
 
     /// The front of the text.
     #[inline]
     pub fn new(text: &'t str) -> Scan<'t>
-        ensures { (form : Form) → Reaches form text.now result }
+        ensures rest { result.rest.now ≡ text.now }
+        ensures reaches { (form : Form) → Reaches form text.now result }
     {
         Scan {
             rest: text,
@@ -57,72 +60,56 @@ impl<'t> Scan<'t> {
         }
     }
 
-    /// As far as the text is known to go on as a span, in the form of this number: each form has a copy of the loop of its own.
-    /// Bytes are asked together where that is likely to pay: not after a character of which they told nothing.
+    /// As far as the text is known to go on as a span, in the form of this number: each form has a copy of the loops of its own.
     pub fn to_end<const FORM: usize>(text: &'t str) -> End<'t>
         ensures ends { Ends (form_of FORM) result.scan }
         ensures span { ReachesEnd (form_of FORM) text.now result }
     {
         let form = form_of(FORM);
-        let mut scan = Scan::new(text).over_blocks(form);
-        let mut pays = true;
+        let mut scan = Scan::new(text);
+        let mut plain = first_plain(form, text.as_bytes());
         loop {
-            let next = match scan.step(form) {
-                Ok(next) => next,
-                Err(next) => return End { scan, next },
-            };
-            scan = next;
-            if pays || next.is_after_marks() || next.is_before_plain(form) {
-                scan = next.over_plain(form);
-                pays = scan.rest.len() < next.rest.len();
+            let ahead = next_look(form, scan.rest.as_bytes(), plain);
+            match scan.past(form, ahead.len).over_window(form, ahead.window) {
+                Ok(next) => (scan, plain) = next,
+                Err(end) => return end,
             }
         }
     }
 
-    /// Whether it stands after a mark, and no byte comes next that begins a mark of U+0300 to U+037F.
+    /// After the characters of a window that have to be looked up, and how many bytes there are then of which none begins such a
+    /// character; or where the span ends before.
     #[inline(always)]
-    fn is_after_marks(self) -> bool {
-        let bytes = self.rest.as_bytes();
-        self.marks.class != 0 && !bytes.is_empty() && !matches!(bytes[0], 0xCC | 0xCD)
-    }
-
-    /// Whether the byte after it begins no character that has to be looked up.
-    #[inline(always)]
-    fn is_before_plain(self, form: Form) -> bool {
-        let bytes = self.rest.as_bytes();
-        !bytes.is_empty() && !wants_look(form, bytes[0])
-    }
-
-    /// After the blocks, and then the bytes, that begin no character that has to be looked up.
-    #[inline(always)]
-    fn over_blocks(self, form: Form) -> Scan<'t>
-        ensures span { (text : List ℕ) → Reaches form text self.entry → Reaches form text result }
+    fn over_window(self, form: Form, window: Window) -> Result<(Scan<'t>, usize), End<'t>>
+        requires { IsWindow form self.rest.now window }
+        ensures span { IfOk result (λ next. (text : List ℕ) → Reaches form text self.entry → Reaches form text next.0) }
+        ensures shorter { IfOk result (λ next. length next.0.rest.now < length self.entry.rest.now) }
+        ensures plain { IfOk result (λ next. IsPlainFront form next.0.rest.now next.1) }
+        ensures ends { IfErr result (λ end. Ends form end.scan) }
+        ensures reaches { IfErr result (λ end. (text : List ℕ) → Reaches form text self.entry → ReachesEnd form text end) }
     {
-        if !self.is_before_plain(form) {
-            return self;
+        let mut scan = self;
+        let mut left = window;
+        loop {
+            let next = match scan.step(form) {
+                Ok(next) => next,
+                Err(next) => return Err(End { scan, next }),
+            };
+            left = left.after(scan.rest.len() - next.rest.len());
+            let Some(run) = left.before_next() else {
+                return Ok((next, left.len));
+            };
+            scan = next.past(form, run);
+            left = left.after(run);
         }
-        let bytes = self.rest.as_bytes();
-        let from = plain_blocks(form, bytes);
-        self.past(form, plain_len(form, bytes, from))
-    }
-
-    /// After the bytes that begin no character that has to be looked up.
-    #[inline(always)]
-    fn over_plain(self, form: Form) -> Scan<'t>
-        ensures span { (text : List ℕ) → Reaches form text self.entry → Reaches form text result }
-        ensures within { length result.rest.now ≤ length self.entry.rest.now }
-    {
-        self.past(form, plain_len(form, self.rest.as_bytes(), 0))
     }
 
     /// After so many bytes that begin no character that has to be looked up.
     #[inline(always)]
     pub fn past(self, form: Form, len: usize) -> Scan<'t>
-        requires within { len ≤ length self.rest.now }
-        requires plain { (k : ℕ) → k < len → look_at form self.rest.now k ≡ false }
-        requires begins { len < length self.rest.now → 192 ≤ slice_index self.rest.now len }
+        requires { IsPlain form self.rest.now len }
+        ensures rest { result.rest.now ≡ drop len self.entry.rest.now }
         ensures span { (text : List ℕ) → Reaches form text self.entry → Reaches form text result }
-        ensures within { length result.rest.now ≤ length self.entry.rest.now }
     {
         laws::every_character_is_sound();
         laws::the_quick_check_tells();
@@ -140,7 +127,7 @@ impl<'t> Scan<'t> {
     #[inline(always)]
     fn step(self, form: Form) -> Result<Scan<'t>, Option<Entry>>
         ensures span { IfOk result (λ next. (text : List ℕ) → Reaches form text self.entry → Reaches form text next) }
-        ensures shorter { IfOk result (λ next. length next.rest.now < length self.entry.rest.now) }
+        ensures rest { IfOk result (λ next. IsAfterCharacter self.entry.rest.now next.rest.now) }
         ensures stops { IsErr result → Ends form self.entry }
         ensures next { (text : List ℕ) → Reaches form text self.entry → IfErr result (λ next. IfSome next (IsOfFirst self.entry.rest.now)) }
     {
@@ -157,4 +144,15 @@ impl<'t> Scan<'t> {
             None => Err(Some(known)),
         }
     }
+}
+
+/// How many bytes there are in front of which none begins a character that has to be looked up, by blocks.
+#[inline(always)]
+fn first_plain(form: Form, bytes: &[u8]) -> usize
+    ensures { IsPlainFront form bytes.now result }
+{
+    if bytes.is_empty() || wants_look(form, bytes[0]) {
+        return 0;
+    }
+    plain_blocks(form, bytes)
 }

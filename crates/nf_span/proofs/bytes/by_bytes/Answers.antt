@@ -12,5 +12,5 @@ loop-at-preserved c = record {
       (told_by_lead c.args.form c.args.bytes.now c.loop-at.at (sym c.wants_look.ensures ∙ c.if-not-wants_look.true));
 }
 
-pub returns-else-not-wants_look-clause-begins : goal.returns-else-not-wants_look-clause-begins
-returns-else-not-wants_look-clause-begins c inside = lead_begins c.args.form _ (sym c.wants_look.ensures ∙ c.if-not-wants_look.false)
+pub returns-else-not-wants_look : goal.returns-else-not-wants_look
+returns-else-not-wants_look c = record { front = c.loop-at.invariant; begins = λ inside. lead_begins c.args.form _ (sym c.wants_look.ensures ∙ c.if-not-wants_look.false) }

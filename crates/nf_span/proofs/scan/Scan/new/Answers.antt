@@ -4,8 +4,8 @@ use Rattle.nf_forms.specs.Laws.SpanSteps.{span_none}
 use Rattle.nf_forms.specs.Ucd.{ucd}
 use Rattle.nf_span.proofs.scan.Scan.new.Goals as goal
 
-pub returns : goal.returns
-returns c = λ f. record {
+pub returns-clause-reaches : goal.returns-clause-reaches
+returns-clause-reaches c = λ f. record {
   front = [];
   split = refl;
   front_utf8 = IsUtf8-nil;

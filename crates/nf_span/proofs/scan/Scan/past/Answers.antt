@@ -7,7 +7,7 @@ use Rattle.nf_span.proofs.ScanLemmas.{reaches_past_piece}
 use Rattle.nf_span.proofs.scan.Scan.past.Goals as goal
 
 pub range_from-requires : goal.range_from-requires
-range_from-requires c = λ some. boundary c.args.form c.args.self.rest.now c.args.len c.requires.within c.requires.begins
+range_from-requires c = λ some. boundary c.args.form c.args.self.rest.now c.args.len c.requires.front.within c.requires.begins
 
 pub returns-clause-span : goal.returns-clause-span
 returns-clause-span c = λ text here.
@@ -16,10 +16,10 @@ returns-clause-span c = λ text here.
     let len = c.args.len in
     let front = take len rest in
     let whole : front ++ drop len rest ≡ rest = take-append-drop len rest in
-    let long : length front ≡ len = length-take-le len rest c.requires.within in
-    let u = IsUtf8-take rest len here.rest_utf8 (boundary form rest len c.requires.within c.requires.begins) in
+    let long : length front ≡ len = length-take-le len rest c.requires.front.within in
+    let u = IsUtf8-take rest len here.rest_utf8 (boundary form rest len c.requires.front.within c.requires.begins) in
     reaches_past_piece here c.range_from.utf8 front u
     (sym whole ∙ ap (λ t. front ++ t) (sym c.range_from.ensures.value))
     (span_from-plain form (λ x passes. begins_run ucd form x (c.the_quick_check_tells.ensures.own_boundary form x (c.plain_ranges_pass.ensures form x passes)) (c.every_character_is_sound.ensures.character x))
     c.args.self.marks.class c.args.self.marks.count front (drop len rest) u (omega (arith, long))
-    (λ k inside. rw whole (c.requires.plain k (omega (arith, long)))))
+    (λ k inside. rw whole (c.requires.front.plain k (omega (arith, long)))))
