@@ -1,5 +1,5 @@
 -- Where bytes tell of a character, and where one begins.
-use Rattle.std.proofs.Common.{◌≡◌, inl, inr, ℕ, ◌+◌, ◌/◌, ◌<◌, ◌≤◌, Bool, true, false, not, ◌&&◌, ◌==◌, List, length, drop, get_or, bit_and, bit_or, cond, refl, sym, ap, ◌∙◌, arith, eqb-true}
+use Rattle.std.proofs.Common.{◌≡◌, inl, inr, ℕ, ◌+◌, ◌/◌, ◌<◌, ◌≤◌, Bool, true, false, not, ◌&&◌, ◌==◌, List, get_or, bit_and, bit_or, cond, refl, sym, ap, ◌∙◌, arith, eqb-true}
 use Rattle.std.specs.Int.{bit_at}
 use Rattle.std.proofs.lemmas.List.{get_or-drop, length-drop}
 use Rattle.std.proofs.lemmas.Nat.{and_le_l, le_or_l, le_or_r}
@@ -14,8 +14,7 @@ use Rattle.nf_lanes.specs.declared.sets.Triples.{Triples}
 use Rattle.nf_lanes.proofs.PlacesLemmas.{bit_of, bits_at-below}
 use Rattle.nf_span.specs.Leads.{lead_bits, wants_look}
 use Rattle.nf_span.specs.Closer.{pairs_of, triples_of, wants_pair, wants_triple, wants_triples, kana_of, wide_of, look_at, IsOfForm}
-use Rattle.nf_span.specs.Window.{IsWindow}
-use Rattle.nf_span.specs.declared.window.Window.{Window}
+use Rattle.nf_span.specs.Window.{AreLooks}
 use Rattle.nf_span.proofs.WindowLemmas.{look_at-drop}
 
 -- neither number has a bit
@@ -81,28 +80,26 @@ module _ (f : Form) where
     told_by_lead k e = ap (λ b. b && (pair_at k && triples_at k)) e
 
     -- what the bits of a test tell
-    module _ (at : ℕ) (room : at + 16 ≤ length bytes) where
+    module _ (at : ℕ) where
       by_test : (test : ℕ → Bool) → ((k : ℕ) → test k ≡ false → look_at f bytes k ≡ false) → ((k : ℕ) → test k ≡ true → 192 ≤ get_or bytes k 0)
-          → (window : Window) → window.looks ≡ bits_at test at → window.len ≡ 16 → IsWindow f (drop at bytes) window
+          → AreLooks f bytes at (bits_at test at)
       by_test test told begins window is long =
           let bit : (k : ℕ) → k < 16 → bit_at window.looks k ≡ cond (test (at + k)) 1 0 = λ k. bit_of test at window.looks k (at + k) is refl in
           record {
-            within = omega (arith, long, room, length-drop at bytes);
-            plain = λ k inside none. look_at-drop f bytes at k ∙ told (at + k) (unset _ (sym (bit k (omega (arith, inside, long))) ∙ none));
+            plain = λ k inside none. look_at-drop f bytes at k ∙ told (at + k) (unset _ (sym (bit k (omega (arith, inside, long, length-drop at bytes))) ∙ none));
             begins = λ k one.
                 let below : window.looks < 65536 = rw is (bits_at-below test at) in
                 let few : k < 16 = grind (arith, one, bit_at_above window.looks 16 k below) in
-                (omega (arith, few, long), rw (get_or-drop at bytes k 0) (begins (at + k) (is_set _ (sym (bit k few) ∙ one))));
+                (omega (arith, few, long, length-drop at bytes), rw (get_or-drop at bytes k 0) (begins (at + k) (is_set _ (sym (bit k few) ∙ one))));
           }
 
-      pub by_lead : (window : Window) → window.looks ≡ bits_at (λ k. wants_look f (get_or bytes k 0)) at → window.len ≡ 16 → IsWindow f (drop at bytes) window
+      pub by_lead : AreLooks f bytes at (bits_at (λ k. wants_look f (get_or bytes k 0)) at)
       by_lead = by_test _ told_by_lead (λ k. lead_begins (get_or bytes k 0))
 
-      pub by_pair : (window : Window) → window.looks ≡ bits_at pair_at at → window.len ≡ 16 → IsWindow f (drop at bytes) window
+      pub by_pair : AreLooks f bytes at (bits_at pair_at at)
       by_pair = by_test pair_at (λ k none. grind arith) (λ k. begins_with (get_or bytes k 0) _ 13 (no_sets (pairs_of f) (no_lead f).pairs _ (get_or bytes (k + 1) 0)))
 
-      by_triple_in : (t : Triples) → HasNoLead t.pairs → ((k : ℕ) → triple_at t k ≡ false → look_at f bytes k ≡ false)
-          → (window : Window) → window.looks ≡ bits_at (triple_at t) at → window.len ≡ 16 → IsWindow f (drop at bytes) window
+      by_triple_in : (t : Triples) → HasNoLead t.pairs → ((k : ℕ) → triple_at t k ≡ false → look_at f bytes k ≡ false) → AreLooks f bytes at (bits_at (triple_at t) at)
       by_triple_in t rows told =
           by_test (triple_at t) told (λ k.
           let lead = get_or bytes k 0 in
@@ -110,7 +107,7 @@ module _ (f : Form) where
           begins_with lead (triple_sets t lead next (get_or bytes (k + 2) 0)) 11
           (λ small. omega (arith, no_sets t.pairs rows lead next small, and_le_l (pair_sets t.pairs lead next) (byte_sets t.last_high t.last_low (get_or bytes (k + 2) 0)))))
 
-      pub by_triple : (t : Triples) → IsOfForm f t → (window : Window) → window.looks ≡ bits_at (triple_at t) at → window.len ≡ 16 → IsWindow f (drop at bytes) window
+      pub by_triple : (t : Triples) → IsOfForm f t → AreLooks f bytes at (bits_at (triple_at t) at)
       by_triple t (inl kana) = by_triple_in t (rw kana (no_lead f).kana) (λ k none. grind (arith, kana))
       by_triple t (inr (inl wide)) = by_triple_in t (rw wide (no_lead f).wide) (λ k none. grind (arith, wide))
       by_triple t (inr (inr others)) = by_triple_in t (rw others (no_lead f).triples) (λ k none. grind (arith, others))

@@ -54,5 +54,5 @@ after_character text rest c e =
     record { shorter = omega (arith, both, width); few = omega (arith, both, width); after = rw (long, e) (sym (drop-append_seam (encode_utf8 c) rest)) }
 
 -- what is left of a window then
-pub window_past : {f : Form} {text rest : List ℕ} → IsAfterCharacter text rest → (left : Window) → IsWindow f (drop (length text - length rest) text) left → IsWindow f rest left
-window_past {f} here left window = subst (λ t. IsWindow f t left) (sym here.after) window
+pub left_after : {f : Form} {text rest : List ℕ} → IsAfterCharacter text rest → (left : Window) → IsWindow f (drop (length text - length rest) text) left → IsWindow f rest left
+left_after {f} here left window = subst (λ t. IsWindow f t left) (sym here.after) window

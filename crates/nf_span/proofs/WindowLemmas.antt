@@ -1,5 +1,5 @@
 -- What is known of bytes from a place on, and of those before it.
-use Rattle.std.proofs.Common.{◌≡◌, ℕ, ◌+◌, ◌-◌, ◌/◌, ◌^◌, ◌%◌, ◌<◌, ◌≤◌, ⊎_elim, List, drop, sym, ap, ◌∙◌, arith, add_assoc}
+use Rattle.std.proofs.Common.{◌≡◌, ℕ, ◌+◌, ◌-◌, ◌/◌, ◌^◌, ◌%◌, ◌<◌, ◌≤◌, ⊎_elim, List, length, drop, sym, ap, ◌∙◌, arith, add_assoc}
 use Rattle.std.specs.Int.{bit_at}
 use Rattle.std.proofs.str.Laws.{order}
 use Rattle.std.proofs.lemmas.List.{get_or-drop, length-drop}
@@ -31,21 +31,17 @@ module _ (f : Form) (bytes : List ℕ) where
   }
 
   module _ (window : Window) (here : IsWindow f bytes window) where
-    -- what is left of it after n bytes
-    pub window_after : (n : ℕ) (left : Window) → left.looks ≡ window.looks / 2 ^ n → left.len ≡ window.len - n → IsWindow f (drop n bytes) left
-    window_after n left looks len =
+    -- what is left of it past n bytes
+    pub window_past : (n : ℕ) (left : Window) → left.looks ≡ window.looks / 2 ^ n → left.after ≡ window.after → IsWindow f (drop n bytes) left
+    window_past n left looks after =
         let bit : (k : ℕ) → bit_at left.looks k ≡ bit_at window.looks (n + k) = λ k. ap (λ x. bit_at x k) looks ∙ ap (λ x. x % 2) (shr-shr window.looks n k) in
         record {
-          within = omega (arith, len, here.within, length-drop n bytes);
-          plain = λ k inside none. look_at-drop n k ∙ here.plain (n + k) (omega (arith, inside, len)) (sym (bit k) ∙ none);
+          plain = λ k inside none. look_at-drop n k ∙ here.plain (n + k) (omega (arith, inside, after, length-drop n bytes)) (sym (bit k) ∙ none);
           begins = λ k one.
               let there = here.begins (n + k) (sym (bit k) ∙ one) in
-              (omega (arith, there.0, len), rw (get_or-drop n bytes k 0) there.1);
+              (omega (arith, there.0, after, length-drop n bytes), rw (get_or-drop n bytes k 0) there.1);
         }
 
     -- before the first bit that is set
-    pub window_front : (n : ℕ) → n ≤ window.len → ((i : ℕ) → i < n → bit_at window.looks i ≡ 0) → IsPlainFront f bytes n
-    window_front n few none = record {
-      within = omega (arith, few, here.within);
-      plain = λ k inside. here.plain k (omega (arith, inside, few)) (none k inside);
-    }
+    pub window_front : (n : ℕ) → n ≤ length bytes - window.after → ((i : ℕ) → i < n → bit_at window.looks i ≡ 0) → IsPlainFront f bytes n
+    window_front n few none = record { within = omega (arith, few); plain = λ k inside. here.plain k (omega (arith, inside, few)) (none k inside) }

@@ -2,7 +2,7 @@ ghost use Rattle.std.specs.Prelude.{◌≡◌, ◌≤◌, ◌+◌, drop, length,
 ghost use Rattle.nf_lanes.specs.Lanes.{places};
 ghost use Rattle.nf_span.specs.Leads.{lead_bits};
 ghost use Rattle.nf_span.specs.Closer.{IsOfForm};
-ghost use Rattle.nf_span.specs.Window.{IsAhead, IsPlainFront, IsWindow};
+ghost use Rattle.nf_span.specs.Window.{AreLooks, IsAhead, IsPlainFront, IsWindow};
 
 use crate::bytes::by_bytes;
 use crate::closer::{pairs_of, triples_of};
@@ -39,7 +39,10 @@ pub(crate) fn next_look(form: Form, bytes: &[u8], from: usize) -> Ahead
         Ok(ahead) => ahead,
         Err(at) => Ahead {
             len: by_bytes(form, bytes, at),
-            window: Window::NONE,
+            window: Window {
+                looks: 0,
+                after: bytes.len(),
+            },
         },
     }
 }
@@ -71,7 +74,7 @@ fn look_ahead(
         if let Some(run) = window.before_next() {
             return Ok(Ahead {
                 len: at + run,
-                window: window.after(run),
+                window: window.past(run),
             });
         }
         at += LANES;
@@ -84,18 +87,25 @@ fn look_ahead(
 #[inline(always)]
 fn window(form: Form, bytes: &[u8], at: usize, is_near: bool) -> Window
     requires room { at + 18 ≤ length bytes.now }
-    ensures len { result.len ≡ 16 }
+    ensures after { at + 16 + result.after ≡ length bytes.now }
     ensures window { IsWindow form (drop at bytes.now) result }
 {
-    let window = lead_window(form, bytes, at);
-    let Some(run) = window.before_next() else {
-        return window;
+    let after = bytes.len() - at - LANES;
+    let leads = Window {
+        looks: lead_looks(form, bytes, at),
+        after,
+    };
+    let Some(run) = leads.before_next() else {
+        return leads;
     };
     let lead = bytes[at + run];
     if is_near && is_changed(form, lead, bytes[at + run + 1]) {
-        return window;
+        return leads;
     }
-    asked_window(form, lead, bytes, at)
+    Window {
+        looks: asked_looks(form, lead, bytes, at),
+        after,
+    }
 }
 
 /// Whether the form changes most of what begins so, of two bytes, or symbols, syllables of Hangul, letters of Latin and Greek
@@ -107,63 +117,51 @@ fn is_changed(form: Form, lead: u8, next: u8) -> bool {
             && (matches!(lead, 0xE2 | 0xEA..=0xED | 0xEF) || lead == 0xE1 && next >= 0xB8)
 }
 
-/// The same, where what stands after lead bytes is asked, for the sake of one: E2 and E3, of symbols and kana, and EF, of
-/// fullwidth letters, have sets of their own. Each copy has its tables at hand.
+/// A bit for each byte from `at` on, the lowest for the first: whether a character that begins with it has to be looked up, where
+/// what stands after lead bytes is asked, for the sake of one: E2 and E3, of symbols and kana, and EF, of fullwidth letters, have
+/// sets of their own. Each copy has its tables at hand.
 #[inline(always)]
-fn asked_window(form: Form, lead: u8, bytes: &[u8], at: usize) -> Window
+fn asked_looks(form: Form, lead: u8, bytes: &[u8], at: usize) -> u64
     requires room { at + 18 ≤ length bytes.now }
-    ensures len { result.len ≡ 16 }
-    ensures window { IsWindow form (drop at bytes.now) result }
+    ensures { AreLooks form bytes.now at result }
 {
     match lead {
-        0xD0..=0xDF => pair_window(form, bytes, at),
-        0xE2 | 0xE3 => triple_window(form, kana_of(form), bytes, at),
-        0xEF => triple_window(form, wide_of(form), bytes, at),
-        0xE0..=0xEE => triple_window(form, triples_of(form), bytes, at),
-        _ => lead_window(form, bytes, at),
+        0xD0..=0xDF => pair_looks(form, bytes, at),
+        0xE2 | 0xE3 => triple_looks(form, kana_of(form), bytes, at),
+        0xEF => triple_looks(form, wide_of(form), bytes, at),
+        0xE0..=0xEE => triple_looks(form, triples_of(form), bytes, at),
+        _ => lead_looks(form, bytes, at),
     }
 }
 
 /// The same as far as lead bytes tell.
 #[inline(always)]
-fn lead_window(form: Form, bytes: &[u8], at: usize) -> Window
+fn lead_looks(form: Form, bytes: &[u8], at: usize) -> u64
     requires room { at + 16 ≤ length bytes.now }
-    ensures len { result.len ≡ 16 }
-    ensures window { IsWindow form (drop at bytes.now) result }
+    ensures { AreLooks form bytes.now at result }
 {
-    Window {
-        looks: bits(leads(form, bytes, at)),
-        len: LANES,
-    }
+    bits(leads(form, bytes, at))
 }
 
 /// The same, where a lead byte from D0 to DF and the byte after it are asked.
 #[inline(always)]
-fn pair_window(form: Form, bytes: &[u8], at: usize) -> Window
+fn pair_looks(form: Form, bytes: &[u8], at: usize) -> u64
     requires room { at + 17 ≤ length bytes.now }
-    ensures len { result.len ≡ 16 }
-    ensures window { IsWindow form (drop at bytes.now) result }
+    ensures { AreLooks form bytes.now at result }
 {
     let pairs = pair_sets(pairs_of(form), bytes, at);
-    Window {
-        looks: bits_of_either(pairs, leads(form, bytes, at), 13),
-        len: LANES,
-    }
+    bits_of_either(pairs, leads(form, bytes, at), 13)
 }
 
 /// The same, where a lead byte from E0 to EF and the two bytes after it are asked, by sets of the form.
 #[inline(always)]
-fn triple_window(form: Form, triples: &Triples, bytes: &[u8], at: usize) -> Window
+fn triple_looks(form: Form, triples: &Triples, bytes: &[u8], at: usize) -> u64
     requires room { at + 18 ≤ length bytes.now }
     requires triples { IsOfForm form triples.now }
-    ensures len { result.len ≡ 16 }
-    ensures window { IsWindow form (drop at bytes.now) result }
+    ensures { AreLooks form bytes.now at result }
 {
     let triples = triple_sets(triples, bytes, at);
-    Window {
-        looks: bits_of_either(triples, leads(form, bytes, at), 11),
-        len: LANES,
-    }
+    bits_of_either(triples, leads(form, bytes, at), 11)
 }
 
 /// The rows in which the byte at each place from `at` on begins a character that has to be looked up.

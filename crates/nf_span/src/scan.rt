@@ -95,12 +95,12 @@ impl<'t> Scan<'t> {
                 Ok(next) => next,
                 Err(next) => return Err(End { scan, next }),
             };
-            left = left.after(scan.rest.len() - next.rest.len());
+            left = left.past(scan.rest.len() - next.rest.len());
             let Some(run) = left.before_next() else {
-                return Ok((next, left.len));
+                return Ok((next, next.rest.len().saturating_sub(left.after)));
             };
             scan = next.past(form, run);
-            left = left.after(run);
+            left = left.past(run);
         }
     }
 

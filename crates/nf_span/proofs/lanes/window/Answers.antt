@@ -1,8 +1,12 @@
-use Rattle.std.proofs.Common.{drop, arith}
+use Rattle.std.proofs.Common.{drop, refl, arith, length-drop}
 use Rattle.nf_span.proofs.lanes.window.Goals as goal
 
 pub bounds-bytes-at : goal.bounds-bytes-at
-bounds-bytes-at c = omega (arith, c.requires.room, c.lead_window-window.ensures.len, (c.in-Some.ensures.next c.args.form (drop c.args.at c.args.bytes.now) c.lead_window-window.ensures.window).1)
+bounds-bytes-at c =
+    let bytes = c.args.bytes.now in
+    omega (arith, c.requires, length-drop c.args.at bytes, (c.in-Some.ensures.next c.args.form (drop c.args.at bytes) (c.lead_looks.ensures _ refl (omega (arith, c.requires)))).1)
 
 pub bounds-bytes-at-then-is_near : goal.bounds-bytes-at-then-is_near
-bounds-bytes-at-then-is_near c = omega (arith, c.requires.room, c.lead_window-window.ensures.len, (c.in-Some.ensures.next c.args.form (drop c.args.at c.args.bytes.now) c.lead_window-window.ensures.window).1)
+bounds-bytes-at-then-is_near c =
+    let bytes = c.args.bytes.now in
+    omega (arith, c.requires, length-drop c.args.at bytes, (c.in-Some.ensures.next c.args.form (drop c.args.at bytes) (c.lead_looks.ensures _ refl (omega (arith, c.requires)))).1)

@@ -4,7 +4,7 @@ use Rattle.nf_span.proofs.WindowLemmas.{window_front}
 use Rattle.nf_span.proofs.window.Window.before_next.Goals as goal
 
 pub returns-then-self-eq0-clause-none : goal.returns-then-self-eq0-clause-none
-returns-then-self-eq0-clause-none c _ f bytes here = window_front f bytes c.args.self here c.args.self.len (omega arith) (λ i _. rw (c.if-self-eq0.true, bit_at-zero))
+returns-then-self-eq0-clause-none c _ f bytes here = window_front f bytes c.args.self here _ (omega arith) (λ i _. rw (c.if-self-eq0.true, bit_at-zero))
 
 pub returns-clause-next : goal.returns-clause-next
 returns-clause-next c f bytes here =

@@ -1,7 +1,0 @@
-use Rattle.std.proofs.Common.{get_or, refl}
-use Rattle.nf_span.specs.Leads.{lead_bits}
-use Rattle.nf_span.proofs.LookLemmas.{by_lead}
-use Rattle.nf_span.proofs.lanes.lead_window.Goals as goal
-
-pub returns-clause-window : goal.returns-clause-window
-returns-clause-window c = by_lead c.args.form c.args.bytes.now c.args.at c.requires.room _ (c.bits.ensures (λ k. lead_bits c.args.form (get_or c.args.bytes.now k 0)) c.args.at c.leads.ensures) refl
