@@ -17,7 +17,7 @@ pub use Rattle.nf_filter.specs.Checks.{sound_front, place_or_fault, no_place, Ha
 unfoldable pub use Rattle.nf_filter.specs.Counted.{unusable_at, usable_utf8}
 pub use Rattle.nf_filter.specs.Counted.{HasTaken, TakesOn, settled_text, IsPlacedAt, told_by, utf8_place, ends_at}
 pub use Rattle.nf_filter.specs.Devices.{SinkState, SourceState}
-pub use Rattle.nf_filter.specs.Drives.{Drives, DrivesToEnd, FeedsAll}
+pub use Rattle.nf_filter.specs.Drives.{Drives, DrivesToEnd}
 unfoldable pub use Rattle.nf_filter.specs.Faults.{fault_in}
 pub use Rattle.nf_filter.specs.Faults.{answer_at_end, bad_byte, bad_under, first_fault}
 pub use Rattle.nf_filter.specs.Feeding.{taken_utf8, TakesAllowed, HasReadTo, ReadsTo, RefusesBytes, ReplacesCut}

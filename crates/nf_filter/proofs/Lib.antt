@@ -18,7 +18,6 @@ pub mod ComparingLemmas
 pub mod FinishLemmas
 pub mod StandingLemmas
 pub mod FeedingLemmas
-pub mod DriveLemmas
 pub mod SurveysLemmas
 pub mod ChecksLemmas
 pub mod MeasuresLemmas

@@ -1,5 +1,5 @@
 -- What driving a filter over a source answers and writes.
-use Rattle.std.specs.Prelude.{◌≡◌, true, false, Bool, ℕ, ◌+◌, ◌<◌, ◌≤◌, ◌↔◌, ◌⊎◌, List, [], ◌++◌, length, None, IsTrue, IsFalse, IsErr, OnOk, Result, Err, ◌^◌}
+use Rattle.std.specs.Prelude.{◌≡◌, true, false, Bool, ℕ, ◌+◌, ◌<◌, ◌≤◌, ◌↔◌, ◌⊎◌, List, [], ◌++◌, length, None, IsTrue, IsFalse, IsErr, Result, Ok, Err, ◌^◌}
 use Rattle.std.specs.Io.KnownBytes.{Consumes, IsAtEnd}
 use Rattle.std.specs.Result.{result_err}
 use Rattle.nf_forms.specs.Properties.{Properties}
@@ -13,28 +13,8 @@ use Rattle.nf_filter.specs.Devices.{SinkState, SourceState}
 use Rattle.nf_filter.specs.Writes.{Puts, BreaksOff}
 use Rattle.nf_filter.specs.Settled.{settled_utf8}
 use Rattle.nf_filter.specs.Faults.{fault_in}
-use Rattle.nf_filter.specs.Filter.{StandsAfter}
+use Rattle.nf_filter.specs.Filter.{base_of, StandsAfter}
 use Rattle.nf_filter.specs.Finishes.{end_of, final_utf8}
-
--- the filter stood after `bytes`, the first of which has the offset `base`, and was fed what the source gave, of which at
--- most `most` bytes are asked for at once, to its end or to a refusal; `state` is where it stands then
-pub record FeedsAll (most : ℕ) (policy : Policy) (f : Form) (p : Properties) (base : ℕ) (bytes : List ℕ) (source left : SourceState) (old new : SinkState) (state : State) (result : Result (Unit {0}) Fault) : Type 0 where
-  -- what was fed, and the piece that was too long to be fed
-  pub fed : List ℕ
-  pub last : List ℕ
-  pub given : Consumes source.coming left.coming (fed ++ last)
-  pub few : length last ≤ most
-  -- at its end the source has nothing left
-  pub read_out : IsTrue left.is_at_end → IsAtEnd left.coming
-  pub too_long : (result ≡ Err TooLong) ↔ (2 ^ 64 ≤ base + length bytes + length fed + length last)
-  pub all_fed : ¬ (result ≡ Err TooLong) → last ≡ []
-  -- the sink failed on what is settled, or all of it was written
-  pub broken_off : result ≡ Err Write → BreaksOff old new (settled_utf8 policy f p bytes) (settled_utf8 policy f p (bytes ++ fed))
-  pub written : ¬ (result ≡ Err Write) → Puts old new (settled_utf8 policy f p bytes) (settled_utf8 policy f p (bytes ++ fed))
-  -- what was fed has no fault where the source failed or a piece was too long, and else its fault is told
-  pub no_fault : (result ≡ Err Read) ⊎ (result ≡ Err TooLong) → fault_in policy p base (bytes ++ fed) ≡ None
-  pub answer : ¬ (result ≡ Err Write) → ¬ (result ≡ Err Read) → ¬ (result ≡ Err TooLong) → result_err result ≡ fault_in policy p base (bytes ++ fed)
-  pub stands : OnOk result (StandsAfter policy f p state (bytes ++ fed))
 
 -- what is written once these bytes are read: all where the source ended
 abbrev pub due_utf8 : Bool → Policy → Form → Properties → List ℕ → List ℕ
@@ -63,6 +43,17 @@ pub record Drives (most : ℕ) (policy : Policy) (f : Form) (p : Properties) (ba
   pub finished : IsTrue left.is_at_end → ¬ (result ≡ Err Write) → result ≡ end_of policy p base (bytes ++ fed)
   pub stopped : IsFalse left.is_at_end → ¬ (result ≡ Err Write) → ¬ (result ≡ Err Read) → ¬ (result ≡ Err TooLong)
       → IsErr result × (result_err result ≡ fault_in policy p base (bytes ++ fed))
+
+-- a filter that stood after `bytes`, the first of which has the offset `base`, was fed `fed`, and nothing was refused
+pub record HasFed (policy : Policy) (f : Form) (p : Properties) (base : ℕ) (state : State) (bytes fed : List ℕ) (old new : SinkState) : Type 0 where
+  pub base_is : base_of state ≡ base
+  pub stands : StandsAfter policy f p state (bytes ++ fed)
+  pub put : Puts old new (settled_utf8 policy f p bytes) (settled_utf8 policy f p (bytes ++ fed))
+
+-- it was fed all that the source gave, to its end, or it was stopped; `state` is where it stands then
+abbrev pub FeedsAll : ℕ → Policy → Form → Properties → ℕ → List ℕ → SourceState → SourceState → SinkState → SinkState → State → Result (Unit {0}) Fault → Type 0
+FeedsAll most policy f p base bytes source left old new state (Ok _) = (fed : List ℕ) × Consumes source.coming left.coming fed × IsAtEnd left.coming × HasFed policy f p base state bytes fed old new
+FeedsAll most policy f p base bytes source left old new state (Err fault) = Drives most policy f p base bytes source left old new (Err fault)
 
 -- the filter stood after `bytes` and was fed what the source had, to its end; all that it wrote, before and now, is the
 -- whole form, of which something more is said

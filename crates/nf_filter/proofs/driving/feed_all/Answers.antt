@@ -1,6 +1,6 @@
 use Rattle.nf_filter.proofs.Common.{[], ◌++◌, refl, take, inr, ap, ◌∙◌, arith, rules, append-nil, ne_eqb, length-take, Consumes-kept, Consumes-trans}
 use Rattle.nf_filter.proofs.FilterLemmas.{err_is}
-use Rattle.nf_filter.proofs.FeedingLemmas.{HasFed-none, HasFed-more, FeedsAll-failed, FeedsAll-ended, FeedsAll-refused}
+use Rattle.nf_filter.proofs.FeedingLemmas.{HasFed-none, HasFed-more, Drives-failed, Drives-refused}
 use Rattle.nf_filter.proofs.driving.feed_all.Goals as goal
 
 pub loop-given-init : goal.loop-given-init
@@ -16,13 +16,12 @@ loop-given-init g c = record {
 pub returns-in-Err-clause-feeds : goal.returns-in-Err-clause-feeds
 returns-in-Err-clause-feeds g c = λ policy f bytes stands.
     let fed = c.loop-given.invariant.fed in
-    FeedsAll-failed _ _ _ _ _ _ _ _ _ (fed.2 policy f bytes stands) _ _ _ c.in-Err.ensures.failed.1 (Consumes-kept _ _ _ fed.0 fed.1 c.in-Err.ensures.kept)
+    Drives-failed _ _ _ _ _ _ _ _ _ (fed.2 policy f bytes stands) _ _ _ c.in-Err.ensures.failed.1 (Consumes-kept _ _ _ fed.0 fed.1 c.in-Err.ensures.kept)
 
 pub returns-then-given-eq0-clause-feeds : goal.returns-then-given-eq0-clause-feeds
 returns-then-given-eq0-clause-feeds g c = λ policy f bytes stands.
     let fed = c.loop-given.invariant.fed in
-    let consumed = rw (append-nil fed.0) at (Consumes-trans _ _ _ fed.0 [] fed.1 (rw c.if-given-eq0.true at c.in-Ok.ensures.given)) in
-    FeedsAll-ended _ _ _ _ _ _ _ _ _ (fed.2 policy f bytes stands) _ _ _ consumed (c.in-Ok.ensures.read_out c.if-given-eq0.true)
+    (fed.0, rw (append-nil fed.0) at (Consumes-trans _ _ _ fed.0 [] fed.1 (rw c.if-given-eq0.true at c.in-Ok.ensures.given)), c.in-Ok.ensures.read_out c.if-given-eq0.true, fed.2 policy f bytes stands)
 
 pub returns-in-Err-feed-clause-feeds : goal.returns-in-Err-feed-clause-feeds
 returns-in-Err-feed-clause-feeds g c = λ policy f bytes stands.
@@ -30,7 +29,7 @@ returns-in-Err-feed-clause-feeds g c = λ policy f bytes stands.
     let so_far = fed.2 policy f bytes stands in
     let piece = take c.in-Ok.given c.get.new.buf in
     let feeds = rw c.loop-given.invariant.base at ((rw (ap g.R.Rows.properties c.loop-given.invariant.rows) at (c.in-Err-feed.ensures.feeds policy f (bytes ++ fed.0))) so_far.stands) in
-    FeedsAll-refused _ _ _ _ _ _ _ _ _ so_far _ _ _ _ _ _ _ (c.in-Ok.ensures.end ∙ ne_eqb c.in-Ok.given 0 c.if-given-eq0.false) (Consumes-trans _ _ _ fed.0 piece fed.1 c.in-Ok.ensures.given)
+    Drives-refused _ _ _ _ _ _ _ _ _ so_far _ _ _ (c.in-Ok.ensures.end ∙ ne_eqb c.in-Ok.given 0 c.if-given-eq0.false) _ _ _ (Consumes-trans _ _ _ fed.0 piece fed.1 c.in-Ok.ensures.given)
     (omega (arith, length-take c.in-Ok.given c.get.new.buf)) (λ e. rw (err_is e) at c.in-Err-feed.ensures.faults) c.in-Err-feed.ensures.too_long
     (λ e. ap g.S.Sink.state (c.in-Err-feed.ensures.kept (inr e)).1) feeds
 

@@ -1,5 +1,5 @@
 use Rattle.nf_filter.proofs.Common.{◌≡◌, ℕ, ◌-◌, ◌^◌, List, length, IsFalse, Consumes, Form, Policy, rows_of, state_of, base_of, offset_of, is_spent, StandsAfter}
-use Rattle.nf_filter.proofs.FeedingLemmas.{HasFed}
+use Rattle.nf_filter.specs.Drives.{HasFed}
 use Rattle.nf_filter.proofs.driving.feed_all.Given as goal
 
 abbrev pub invariant-loop-given : goal.invariant-loop-given

@@ -74,7 +74,7 @@ returns-in-Err-clause-relays g c =
     let come = so_far.relayed.0 in
     let piece = take c.in-Ok.come c.read.new.buf in
     relays_refused Nfc ucd (g.C.Read.remaining c.args.connection.now) (g.C.Read.remaining c.read.new.self) (g.S.Sink.state c.args.sink.now) (g.S.Sink.state c.loop-come.sink) (state_of c.loop-come.filter) come so_far.base so_far.relayed.2 so_far.relayed.3
-    (state_of c.feed.new.self) piece (g.S.Sink.state c.feed.new.sink) c.in-Err.fault
+    piece (g.S.Sink.state c.feed.new.sink) c.in-Err.fault
     (Consumes-trans _ _ _ come piece so_far.relayed.1 c.in-Ok.ensures.bytes.0)
     (omega (arith, length-take c.in-Ok.come c.read.new.buf, c.read.auto.buf, so_far.room))
     (not_read c.in-Err.fault c.in-Err.ensures.faults) c.in-Err.ensures.too_long
