@@ -14,8 +14,7 @@ pub use Rattle.std.specs.Str.{all_scalars, chars as characters}
 pub use Rattle.nf_filter.specs.Block.{Start, BlockState, Written, WritesTo, Broken, WritesOn, block_state}
 unfoldable pub use Rattle.nf_filter.specs.Checks.{check_fault, check_decision, text_decision}
 pub use Rattle.nf_filter.specs.Checks.{sound_front, place_or_fault, no_place, HasChecked}
-unfoldable pub use Rattle.nf_filter.specs.Counted.{unusable_at, usable_utf8}
-pub use Rattle.nf_filter.specs.Counted.{HasTaken, TakesOn, settled_text, IsPlacedAt, told_by, utf8_place, ends_at}
+pub use Rattle.nf_filter.specs.Counted.{HasTaken, settled_text, IsPlacedAt, told_by, utf8_place, ends_at}
 pub use Rattle.nf_filter.specs.Devices.{SinkState, SourceState}
 pub use Rattle.nf_filter.specs.Drives.{Drives, DrivesToEnd}
 unfoldable pub use Rattle.nf_filter.specs.Faults.{fault_in}
@@ -26,7 +25,7 @@ pub use Rattle.nf_filter.specs.Filter.{base_of, offset_of, is_spent, StandsAfter
 unfoldable pub use Rattle.nf_filter.specs.Finishes.{end_of, final_utf8}
 pub use Rattle.nf_filter.specs.Finishes.{tally_of, answer_or, end_under, whole_or, is_taken, final_under, Finishes, Closes}
 pub use Rattle.nf_filter.specs.Laws.Settled.{settled_utf8-none, text_under-none}
-pub use Rattle.nf_filter.specs.Laws.Undecided.{unusable_at-usable, checked_undecided, measured_undecided}
+pub use Rattle.nf_filter.specs.Laws.Undecided.{checked_undecided, measured_undecided}
 pub use Rattle.nf_filter.specs.Laws.Soundness.{AreSound, RefusesNone}
 pub use Rattle.nf_filter.specs.Measures.{unusable_decision, HasMeasured, measure_decision, text_measure}
 pub use Rattle.nf_filter.specs.Passed.{IsAfterAssigned}

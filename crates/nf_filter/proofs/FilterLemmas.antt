@@ -1,5 +1,5 @@
 -- What a filter answers.
-use Rattle.nf_filter.proofs.Common.{cases_Bool, ◌≡◌, ℕ, ◌+◌, ◌<◌, ◌^◌, Bool, true, false, List, [], length, None, Err, ◌⊎◌, inl, inr, ⊎_elim, refl, sym, ap, ◌∙◌, arith, IsTrue, Result, option_map, length-append, ◌↔◌, Properties, Form, text_of, Fault, Write, State, Policy, SinkState, Puts, BreaksOff, as_is, is_usable, fault_in, unusable_at, unusable_decision, decided_in, base_of, offset_of, StandsAfter, HasReadTo}
+use Rattle.nf_filter.proofs.Common.{cases_Bool, ◌≡◌, ℕ, ◌+◌, ◌<◌, ◌^◌, Bool, true, false, List, [], length, None, Err, ◌⊎◌, inl, inr, ⊎_elim, refl, sym, ap, ◌∙◌, arith, IsTrue, Result, option_map, length-append, ◌↔◌, Properties, Form, text_of, Fault, Write, State, Policy, SinkState, Puts, BreaksOff, as_is, is_usable, fault_in, unusable_decision, decided_in, base_of, offset_of, StandsAfter, HasReadTo}
 
 -- a source is at its end, or before it
 pub never : {A : Type 0} {at_end : Bool} → at_end ≡ true → at_end ≡ false → A
@@ -24,7 +24,7 @@ failed_if {before = before} r breaks puts = (
 
 -- what a text decides that is refused where a filter refuses it
 pub decided_in-fault : (p : Properties) (base : ℕ) (bytes : List ℕ) → decided_in (unusable_decision p base) base bytes ≡ option_map Err (fault_in as_is p base bytes)
-unfolding unusable_at fault_in
+unfolding fault_in
 decided_in-fault p base bytes = ⊎_elim (λ e. rw e) (λ e. rw e) (cases_Bool (is_usable p (text_of bytes)))
 
 -- what a filter that stands after bytes says of them

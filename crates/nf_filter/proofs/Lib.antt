@@ -3,7 +3,6 @@ pub mod WritesLemmas
 pub mod BlockLemmas
 pub mod PolicyLemmas
 pub mod PassedLemmas
-pub mod TextLemmas
 pub mod TakingLemmas
 pub mod TakerLemmas
 pub mod SteppingLemmas

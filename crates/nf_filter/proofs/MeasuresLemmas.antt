@@ -1,7 +1,7 @@
 -- What a measurement decides, character by character.
-use Rattle.nf_filter.proofs.Common.{◌≡◌, ℕ, ◌+◌, Bool, true, false, not, ◌&&◌, ◌||◌, List, [], ◌∷◌, ◌++◌, length, Some, None, ◌∙◌, arith, if◌then◌else◌, option_map, encode_utf8_all, Properties, joiner, is_too_long, stream_safe, is_sound, IsSoundText, refusal, unsound_at, Row, is_usable, unusable_at, utf8_place, is_usable-push}
+use Rattle.nf_filter.proofs.Common.{◌≡◌, ℕ, ◌+◌, Bool, true, false, not, ◌&&◌, ◌||◌, List, [], ◌∷◌, ◌++◌, length, Some, None, ◌∙◌, arith, if◌then◌else◌, option_map, encode_utf8_all, Properties, joiner, is_too_long, stream_safe, is_sound, IsSoundText, refusal, unsound_at, Row, is_usable, first_fault, utf8_place, is_usable-push}
 use Rattle.nf_row.specs.declared.unsound.Unsound.{Unsound}
-use Rattle.nf_filter.proofs.TextLemmas.{unusable_at-stop}
+use Rattle.nf_filter.proofs.PolicyLemmas.{first_fault-stop}
 
 module _ (p : Properties) where
   -- what a measurer refuses cannot be used
@@ -15,6 +15,6 @@ module _ (p : Properties) where
 
   -- a character that is refused after x
   pub refusal_at : (base : ℕ) {at : ℕ} (x : List ℕ) (c : ℕ) {e : Unsound} (y : List ℕ) → IsSoundText p (stream_safe p x) → at ≡ base + length (encode_utf8_all x) → Some e ≡ option_map refusal (unsound_at p x c)
-      → unusable_at p (utf8_place base) ((x ++ c ∷ []) ++ y) ≡ Some (Row at)
+      → first_fault false p (utf8_place base) ((x ++ c ∷ []) ++ y) None ≡ Some (Row at)
   unfolding is_usable
-  refusal_at base x c {e} y sound here refused = rw here (unusable_at-stop p x c y sound (unusable x c e refused) (utf8_place base))
+  refusal_at base x c {e} y sound here refused = rw here (first_fault-stop p x c y sound (unusable x c e refused) (utf8_place base))

@@ -1,5 +1,5 @@
 -- How far a text is taken under a policy.
-use Rattle.nf_filter.proofs.Common.{cases_Bool, ◌≡◌, ℕ, ◌==◌, ◌<◌, Bool, true, false, List, [], ◌∷◌, ◌++◌, length, Option, Some, None, ◌⊎◌, inl, inr, ⊎_elim, refl, sym, ap, ◌∙◌, arith, append-nil, append_assoc, eq-eqb, ne_eqb, take_while, if◌then◌else◌, length-append, list_all, prefix_len, and_parts, eqb-true, eqb-false, Properties, Form, Fault, Row, Unassigned, first_fault, taken_utf8, allowed, is_usable, usable, Extends, Extends-none, Extends-encodes, settled-extends, is_usable-stays_out, usable-all, usable-grows, usable-stays, is_taken, length-prefix_len, prefix_len-append, take-append-le, take_all, take-append-add}
+use Rattle.nf_filter.proofs.Common.{cases_Bool, ◌≡◌, ℕ, ◌==◌, ◌<◌, Bool, true, false, List, [], ◌∷◌, ◌++◌, length, Option, Some, None, ◌⊎◌, inl, inr, ⊎_elim, refl, sym, ap, ◌∙◌, arith, append-nil, append_assoc, eq-eqb, ne_eqb, take_while, if◌then◌else◌, length-append, list_all, prefix_len, and_parts, eqb-true, eqb-false, Properties, Form, Fault, Row, Unassigned, first_fault, taken_utf8, allowed, is_usable, usable, Extends, Extends-none, Extends-encodes, settled-extends, is_usable-stays_out, usable-all, usable-grows, usable-stays, usable-stop, settled_text, is_taken, length-prefix_len, prefix_len-append, take-append-le, take_all, take-append-add}
 use Rattle.std.proofs.lemmas.List.Sums.{take_while-cons, prefix_len-le-length}
 
 module _ (test : ℕ → Bool) where
@@ -86,3 +86,10 @@ module _ (p : Properties) where
   -- all of it
   pub taken-all : (a : Bool) (x : List ℕ) → is_usable p x ≡ true → allowed a p x ≡ x → usable p (allowed a p x) ≡ x
   taken-all a x sound all = rw all (usable-all p x sound)
+
+  pub taken_utf8-extends : (f : Form) (x y : List ℕ) → is_usable p x ≡ true → Extends (settled_text f p x) (taken_utf8 false f p (x ++ y))
+  taken_utf8-extends f x y sound = rw (usable-all p x sound) at (taken_utf8-grows false f x y)
+
+  -- a character after x that cannot be used
+  pub first_fault-stop : (x : List ℕ) (c : ℕ) (rest : List ℕ) → is_usable p x ≡ true → is_usable p (x ++ c ∷ []) ≡ false → (place : List ℕ → ℕ) → first_fault false p place ((x ++ c ∷ []) ++ rest) None ≡ Some (Row (place x))
+  first_fault-stop x c rest sound out place = rw (is_usable-stays_out p (x ++ c ∷ []) rest out, usable-stop p x c rest sound out)

@@ -1,10 +1,10 @@
 -- A step of a normalizer, and what of it went to the sink.
-use Rattle.nf_filter.proofs.Common.{⊎_elim, ◌≡◌, ℕ, ◌<◌, List, [], ◌∷◌, ◌++◌, length, Err, inl, inr, refl, sym, ap, ◌∙◌, arith, append_assoc, encode_utf8_all, IsUtf8, chars, encodes-chars, Properties, Form, safe_form, Given, Extends, Extends-join, Counted, WriteFault, Start, BlockState, Written, Broken, HasTaken, TakesOn, settled_text, usable_utf8, Standing}
+use Rattle.nf_filter.proofs.Common.{⊎_elim, ◌≡◌, ℕ, ◌<◌, List, [], ◌∷◌, ◌++◌, length, Err, inl, inr, refl, sym, ap, ◌∙◌, arith, append_assoc, encode_utf8_all, IsUtf8, chars, encodes-chars, Properties, Form, safe_form, Given, Extends, Extends-join, Counted, WriteFault, Start, BlockState, Written, Broken, HasTaken, TakesAllowed, false, taken_utf8, settled_text, Standing}
 use Rattle.nf_normalizer.specs.declared.normalizer.Normalizer.{Normalizer}
 use Rattle.nf_normalizer.specs.Front.{Stands}
 use Rattle.nf_normalizer.specs.Laws.Boundary.{usable-alone, usable_both, settled_text-after}
 use Rattle.nf_filter.proofs.BlockLemmas.{Broken-extends}
-use Rattle.nf_filter.proofs.TextLemmas.{usable_utf8-extends}
+use Rattle.nf_filter.proofs.PolicyLemmas.{taken_utf8-extends}
 
 pub first-left : (rest : List ℕ) → IsUtf8 rest → 0 < length rest → (c : ℕ) × (more : List ℕ) × (chars rest ≡ c ∷ more)
 first-left rest utf8 some = next (chars rest) (encodes-chars rest utf8)
@@ -23,18 +23,18 @@ given_to start given = record { given = given; ahead = start.ahead }
 module _ {f : Form} {p : Properties} {start : Start} where
   -- the sink failed in it
   pub stands-failed : {n : Normalizer} {new : Counted} {given out x next w : List ℕ} {place : List ℕ → ℕ} (now : BlockState) → Stands f p n (given_to start given) out x next → w ≡ given ++ out → Broken (apart start) now w
-      → TakesOn f p new start now place (x ++ next) (Err WriteFault)
+      → TakesAllowed false f p new start now place (x ++ next) (Err WriteFault)
   stands-failed {x = x} {next = next} now stands is broken = record {
     writes = record {
       broken = λ _. ⊎_elim
-          (λ inside. Broken-extends start (usable_utf8-extends p f x next inside.taken.usable) (rw (is ∙ sym inside.holds.text) at broken))
+          (λ inside. Broken-extends start (taken_utf8-extends p f x next inside.taken.usable) (rw (is ∙ sym inside.holds.text) at broken))
           (λ between.
           let first = between.boundary.first in
           let rest = between.boundary.rest in
           let one : next ≡ (first ∷ []) ++ rest = between.boundary.text in
           let usable = usable_both p f x between.usable next [] rest between.boundary one (usable-alone p f first between.boundary.boundary between.boundary.sound) in
           let grows : Extends (encode_utf8_all (safe_form f p x)) (settled_text f p (x ++ first ∷ [])) = record { more = settled_text f p (first ∷ []); text = sym (settled_text-after p f x between.usable next [] rest between.boundary one) } in
-          let due : Extends (encode_utf8_all (safe_form f p x)) (usable_utf8 f p (x ++ next)) = rw (one, ← append_assoc x (first ∷ []) rest) (Extends-join grows (usable_utf8-extends p f (x ++ first ∷ []) rest usable)) in
+          let due : Extends (encode_utf8_all (safe_form f p x)) (taken_utf8 false f p (x ++ next)) = rw (one, ← append_assoc x (first ∷ []) rest) (Extends-join grows (taken_utf8-extends p f (x ++ first ∷ []) rest usable)) in
           Broken-extends start due (rw (is ∙ sym between.holds.text) at broken))
           stands;
       written = λ no. absurd (no refl);

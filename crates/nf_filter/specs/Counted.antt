@@ -39,17 +39,3 @@ told_by begin bytes n = begin + source_in (decoded_of bytes) n
 -- so `place` tells it of each character of the text y after x, before which their text has `at` bytes
 abbrev pub IsPlacedAt : (List ℕ → ℕ) → ℕ → List ℕ → ℕ → List ℕ → List ℕ → Type 0
 IsPlacedAt place begin bytes at x y = (front : List ℕ) (c : ℕ) (rest : List ℕ) → y ≡ front ++ c ∷ rest → place (x ++ front) ≡ told_by begin bytes (at + length (encode_utf8_all front))
-
--- the fault at which it stops in a text, by where what stands after a front of it begins
-unfoldable pub unusable_at : Properties → (List ℕ → ℕ) → List ℕ → Option Fault
-unusable_at p place x = if is_usable p x then None else Some (Row (place (usable p x)))
-
--- what it has written of a text
-unfoldable pub usable_utf8 : Form → Properties → List ℕ → List ℕ
-usable_utf8 f p x = settled_text f p (usable p x)
-
--- the text x was taken, or why not all of it
-pub record TakesOn (f : Form) (p : Properties) (counted : Counted) (start : Start) (now : BlockState) (place : List ℕ → ℕ) (x : List ℕ) (result : Result (Unit {0}) Fault) : Type 0 where
-  pub writes : WritesTo start now (usable_utf8 f p x) result
-  pub fault : ¬ (result ≡ Err WriteFault) → result_err result ≡ unusable_at p place x
-  pub taken : OnOk result (HasTaken f p counted x)

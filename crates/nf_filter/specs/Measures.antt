@@ -1,5 +1,5 @@
 -- What is measured of bytes, and where they cannot be measured (UAX #15, section 13; The Unicode Standard, section 3.9).
-use Rattle.std.specs.Prelude.{◌≤◌, ℕ, List, Option, option_map, Result, Err}
+use Rattle.std.specs.Prelude.{◌≤◌, false, ℕ, List, Option, None, option_map, Result, Err}
 use Rattle.nf_forms.specs.Properties.{Properties}
 use Rattle.nf_utf8.specs.Reading.{text_of}
 use Rattle.nf_safe.specs.declared.measure.Measure.{Measure}
@@ -8,8 +8,8 @@ use Rattle.nf_safe.specs.Measurer.{values_of, StandsAfter}
 use Rattle.nf_safe.specs.Measures.{measure_of}
 use Rattle.nf_filter.specs.declared.fault.Fault.{Fault}
 use Rattle.nf_filter.specs.Policy.{as_is}
-use Rattle.nf_filter.specs.Faults.{fault_in}
-use Rattle.nf_filter.specs.Counted.{unusable_at, utf8_place}
+use Rattle.nf_filter.specs.Faults.{fault_in, first_fault}
+use Rattle.nf_filter.specs.Counted.{utf8_place}
 
 -- only a fault stops a measurement, the one at which a filter stops
 abbrev pub measure_decision : Properties → ℕ → List ℕ → Option (Result Measure Fault)
@@ -29,4 +29,4 @@ ends_at measurer at = (values_of measurer).bytes ≤ at
 
 -- what a text decides that begins at the offset `base`
 abbrev pub unusable_decision : Properties → ℕ → List ℕ → Option (Result Measure Fault)
-unusable_decision p base x = option_map Err (unusable_at p (utf8_place base) x)
+unusable_decision p base x = option_map Err (first_fault false p (utf8_place base) x None)

@@ -22,11 +22,11 @@ const WORTH: usize = 16;
 const MIN_LOOK_UPS: usize = 16;
 
 impl Counted {
-    ghost use Rattle.std.specs.Prelude.{◌≡◌, ◌+◌, ◌<◌, ◌≤◌, Bool, ℕ, List, [], ◌∷◌, ◌++◌, length, chars, Err, IfErr, OnOk, MatchResult};
+    ghost use Rattle.std.specs.Prelude.{◌≡◌, ◌+◌, ◌<◌, ◌≤◌, Bool, false, ℕ, List, [], ◌∷◌, ◌++◌, length, chars, Err, IfErr, OnOk, MatchResult};
     ghost use Rattle.nf_forms.specs.declared.form.Form.{Form};
     ghost use Rattle.nf_normalizer.specs.Normalizer.{IsWithin as IsReady};
     ghost use Rattle.nf_filter.specs.Block.{Start, block_state, Written};
-    ghost use Rattle.nf_filter.specs.Counted.{HasTaken, IsPlacedAt, IsWithin, TakesOn, settled_text};
+    ghost use Rattle.nf_filter.specs.Counted.{HasTaken, IsPlacedAt, IsWithin, settled_text};
     ghost use Rattle.nf_filter.specs.Faults.{IsOfTaking};
     ghost use Rattle.nf_filter.specs.Feeding.{TakesAllowed};
     ghost use Rattle.nf_filter.specs.Policy.{allowed};
@@ -82,7 +82,7 @@ impl Counted {
         ensures takes { let p = R.properties rows.now in
             (f : Form) (place : List ℕ → ℕ) (x : List ℕ) (start : Start) → self.old.chars ≡ length x
             → Standing f p self.old start (block_state (S.state sink.old) block.old) x (chars text.now) → IsPlacedAt place origin.entry.begin origin.entry.bytes.now 0 x (chars text.now)
-            → TakesOn f p self.new start (block_state (S.state sink.new) block.new) place (x ++ chars text.now) result }
+            → TakesAllowed false f p self.new start (block_state (S.state sink.new) block.new) place (x ++ chars text.now) result }
         ensures lender { (S.state sink.new).lender ≡ (S.state sink.old).lender }
     {
         let mut rest = text;
@@ -119,7 +119,7 @@ impl Counted {
         ensures steps { let p = R.properties rows.now in
             (f : Form) (place : List ℕ → ℕ) (x : List ℕ) (start : Start) → Standing f p self.old start (block_state (S.state sink.old) block.old) x (chars text.now)
             → IsPlacedAt place origin.entry.begin origin.entry.bytes.now seen x (chars text.now) → MatchResult result (λ rest. StandsInFront f p self.new start (block_state (S.state sink.new) block.new) x text.now rest.now)
-            (λ fault. TakesOn f p self.new start (block_state (S.state sink.new) block.new) place (x ++ chars text.now) (Err fault)) }
+            (λ fault. TakesAllowed false f p self.new start (block_state (S.state sink.new) block.new) place (x ++ chars text.now) (Err fault)) }
         ensures lender { (S.state sink.new).lender ≡ (S.state sink.old).lender }
     {
         if let Err(Failed) = block.make_room(STEP, sink) {

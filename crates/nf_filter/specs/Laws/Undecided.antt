@@ -9,7 +9,6 @@ use Rattle.nf_safe.specs.declared.checker.Checker.{Checker}
 use Rattle.nf_safe.specs.declared.measurer.Measurer.{Measurer}
 use Rattle.nf_safe.specs.Place.{place_from}
 use Rattle.nf_filter.specs.Settled.{is_usable}
-use Rattle.nf_filter.specs.Counted.{unusable_at, utf8_place}
 use Rattle.nf_filter.specs.Checks.{text_decision, HasChecked}
 use Rattle.nf_filter.specs.Measures.{unusable_decision, HasMeasured}
 
@@ -28,10 +27,6 @@ pub checked_undecided : (p : Properties) (checker : Checker) (base : ℕ) (x : L
 checked_undecided p checker base x seen = no_stop p base x seen.sound (sym seen.stands.place ∙ seen.none)
 
 -- usable text
-pub unusable_at-usable : (p : Properties) (place : List ℕ → ℕ) (x : List ℕ) → is_usable p x ≡ true → unusable_at p place x ≡ None
-unfolding unusable_at
-unusable_at-usable p place x sound = rw sound
-
 pub measured_undecided : (p : Properties) (measurer : Measurer) (base : ℕ) (x : List ℕ) → HasMeasured p measurer base x → unusable_decision p base x ≡ None
 unfolding is_usable
-measured_undecided p measurer base x seen = ap (option_map Err) (unusable_at-usable p (utf8_place base) x seen.sound)
+measured_undecided p measurer base x seen = rw seen.sound

@@ -1,6 +1,6 @@
-use Rattle.nf_filter.proofs.Common.{ℕ, Result, Fault, Err, Row, WriteFault, ◌≡◌, ◌+◌, ◌-◌, [], ◌∷◌, ◌++◌, length, refl, sym, ◌∙◌, arith, rules, encode_utf8_all, append_assoc, length-append, IsUtf8, chars}
+use Rattle.nf_filter.proofs.Common.{ℕ, Result, Fault, Err, Row, WriteFault, ◌≡◌, ◌+◌, ◌-◌, [], ◌∷◌, ◌++◌, length, refl, sym, ◌∙◌, arith, rules, encode_utf8_all, append_assoc, length-append, usable-stop, IsUtf8, chars}
 use Rattle.nf_filter.proofs.BlockLemmas.{WritesTo-written}
-use Rattle.nf_filter.proofs.TextLemmas.{usable_utf8-stop, unusable_at-stop}
+use Rattle.nf_filter.proofs.PolicyLemmas.{first_fault-stop}
 use Rattle.nf_filter.proofs.TakingLemmas.{front_len, front-joined}
 use Rattle.nf_filter.proofs.SteppingLemmas.{apart, given_to, given_and, stands-failed, stands-moved, Standing-moved}
 use Rattle.nf_filter.proofs.counted.Counted.step.Goals as goal
@@ -26,8 +26,8 @@ returns-in-Unsound-clause-steps g c = λ f place x start standing placed.
     let whole : (y ++ refuses.first ∷ []) ++ refuses.rest ≡ x ++ chars text =
     rw (append_assoc y (refuses.first ∷ []) refuses.rest, ← refuses.is_first) (front-joined x (chars text) stopped.front (chars c.in-Unsound.rest.now) stopped.is_front) in
     rw (← whole) (record {
-      writes = WritesTo-written no_failure (rw (← usable_utf8-stop p y refuses.first refuses.rest refuses.usable refuses.unusable f) (record { given = moved.given; puts = moved.puts; text = refuses.holds.text }));
-      fault = λ _. rw here at (sym (unusable_at-stop p y refuses.first refuses.rest refuses.usable refuses.unusable place));
+      writes = WritesTo-written no_failure (rw (usable-stop p y refuses.first refuses.rest refuses.usable refuses.unusable) (record { given = moved.given; puts = moved.puts; text = refuses.holds.text }));
+      fault = λ _. rw here at (sym (first_fault-stop p y refuses.first refuses.rest refuses.usable refuses.unusable place));
       taken = tt;
     })
 

@@ -1,7 +1,7 @@
-use Rattle.nf_filter.proofs.Common.{[], ◌≡◌, ⊎_elim, sym, unusable_at-usable, ◌∷◌, ◌++◌, length-append, length, rules, ap, arith, ◌∙◌, chars}
+use Rattle.nf_filter.proofs.Common.{[], ◌≡◌, ⊎_elim, sym, refl, None, false, usable-all, ◌∷◌, ◌++◌, length-append, length, rules, ap, arith, ◌∙◌, chars}
 use Rattle.nf_filter.proofs.TakingLemmas.{front-more, front-whole, nothing-left}
 use Rattle.nf_filter.proofs.TakerLemmas.{joined, placed-left, takes-none, takes-more}
-use Rattle.nf_filter.proofs.TextLemmas.{usable_utf8-usable}
+use Rattle.nf_filter.proofs.PolicyLemmas.{first_fault-none}
 use Rattle.nf_filter.proofs.counted.Counted.take_text.Goals as goal
 
 pub loop-rest-init : goal.loop-rest-init
@@ -37,9 +37,9 @@ returns-clause-takes g c = λ f place x start counted standing placed.
     let whole : x ++ here.front ≡ x ++ chars text = rw (front-whole text here.front rest here.is_front none) in
     ⊎_elim
     (λ inside. rw (← whole) (record {
-      writes = record { broken = λ e. cc; written = λ _. rw (← usable_utf8-usable p f (x ++ here.front) inside.taken.usable) (record { given = here.taken.given; puts = here.taken.puts; text = inside.holds.text }) };
-      fault = λ _. sym (unusable_at-usable p place (x ++ here.front) inside.taken.usable);
-      taken = record { machine = inside.taken; chars = omega (arith, c.char_count.ensures, length-append x (chars text), ap length whole); put = here.taken.put };
+      writes = record { broken = λ e. cc; written = λ _. rw (usable-all p (x ++ here.front) inside.taken.usable) (record { given = here.taken.given; puts = here.taken.puts; text = inside.holds.text }) };
+      fault = λ _. sym (first_fault-none p false place (x ++ here.front) None inside.taken.usable refl);
+      taken = (record { machine = inside.taken; chars = omega (arith, c.char_count.ensures, length-append x (chars text), ap length whole); put = here.taken.put }, refl);
     }))
     (λ between. let begins : [] ≡ between.boundary.first ∷ between.boundary.rest = sym (nothing-left rest none) ∙ between.boundary.text in cc)
     here.taken.stands
