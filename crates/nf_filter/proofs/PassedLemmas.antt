@@ -1,5 +1,5 @@
 -- How far a text is assigned, piece by piece.
-use Rattle.nf_filter.proofs.Common.{◌≡◌, ℕ, ◌-◌, true, List, [], ◌++◌, length, refl, ap, arith, length-append, append_assoc, append-nil, take_at, take_while, chars, encode_utf8, encode_utf8_all, IsUtf8, list_all-append, chars-nil, chars-append, IsUtf8-append, IsUtf8-take, IsCharBoundary-at_seam, encodes-chars, Properties, IsAfterAssigned}
+use Rattle.nf_filter.proofs.Common.{◌≡◌, ℕ, ◌-◌, Bool, true, List, [], ◌++◌, length, refl, sym, ap, ◌∙◌, arith, length-append, append_assoc, append-nil, take, take_at, take_while, chars, encode_utf8, encode_utf8_all, IsUtf8, list_all-append, chars-nil, chars-append, IsUtf8-append, IsUtf8-take, IsCharBoundary-at_seam, encodes-chars, Properties, IsAfterAssigned}
 use Rattle.nf_filter.proofs.PolicyLemmas.{take_while-append}
 use Rattle.nf_filter.proofs.TakingLemmas.{nothing-left, chars_of_one}
 
@@ -23,12 +23,15 @@ module _ {p : Properties} {text rest : List ℕ} (here : IsAfterAssigned p text 
     assigned = rw (chars-append here.front more.front here.front_utf8, list_all-append p.assigned (chars here.front) (chars more.front), here.assigned, more.assigned);
   }
 
-  -- where the next character, if any, is not assigned
-  pub stops : take_while p.assigned (chars rest) ≡ [] → length text - length rest ≡ length (encode_utf8_all (take_while p.assigned (chars text)))
-  stops none =
-      let long : length (encode_utf8_all (take_while p.assigned (chars text))) ≡ length here.front =
-      rw (here.split, chars-append here.front rest here.front_utf8, take_while-append p.assigned (chars here.front) (chars rest) here.assigned, none, append-nil (chars here.front), encodes-chars here.front here.front_utf8) in
-      omega (arith, ap length here.split, length-append here.front rest)
+  pub front_len : length text - length rest ≡ length here.front
+  front_len = omega (arith, ap length here.split, length-append here.front rest)
 
-  pub ends : length rest ≡ 0 → length text ≡ length (encode_utf8_all (take_while p.assigned (chars text)))
-  ends empty = omega (arith, stops (rw (nothing-left rest empty)))
+  pub front_at : take (length text - length rest) text ≡ here.front
+  front_at = ap (take (length text - length rest)) here.split ∙ take_at here.front rest _ (sym front_len)
+
+  -- where the next character, if any, is not assigned
+  pub front_is : take_while p.assigned (chars rest) ≡ [] → take_while p.assigned (chars text) ≡ chars here.front
+  front_is none = rw (here.split, chars-append here.front rest here.front_utf8, take_while-append p.assigned (chars here.front) (chars rest) here.assigned, none) (append-nil (chars here.front))
+
+pub stops_at_end : (test : ℕ → Bool) (rest : List ℕ) → length rest ≡ 0 → take_while test (chars rest) ≡ []
+stops_at_end test rest empty = rw (nothing-left rest empty)

@@ -1,5 +1,5 @@
 //! How text goes through a normalizer to a sink, step by step.
-ghost use Rattle.std.specs.Prelude.{◌≡◌, ◌<◌, ◌≤◌, ◌++◌, true, length, take, chars, take_while, encode_utf8_all};
+ghost use Rattle.std.specs.Prelude.{◌≡◌, ◌<◌, ◌≤◌, ◌++◌, true, [], length, take, chars, take_while};
 ghost use Rattle.std.specs.List.{list_all};
 ghost use Rattle.std.specs.Str.{IsCharBoundary};
 ghost use Rattle.nf_filter.specs.Passed.{IsAfterAssigned};
@@ -145,23 +145,17 @@ fn split_allowed<'t, R: Rows>(rows: &R, assigned: bool, text: &'t str) -> (&'t s
     ensures front { chars result.0.now ≡ allowed assigned (R.properties rows.now) (chars text.now) }
     ensures whole { chars text.now ≡ chars result.0.now ++ chars result.1.now }
 {
-    text.split_at(allowed_len(rows, assigned, text))
-}
-
-/// How many bytes these have.
-fn allowed_len<R: Rows>(rows: &R, assigned: bool, text: &str) -> usize
-    ensures { result ≡ length (encode_utf8_all (allowed assigned (R.properties rows.now) (chars text.now))) }
-{
-    if assigned {
-        assigned_len(rows, text)
-    } else {
-        text.len()
+    if !assigned {
+        return (text, "");
     }
+    let rest = past_assigned(rows, text);
+    text.split_at(text.len() - rest.len())
 }
 
-/// How many bytes the assigned characters at the front of the text have (general category other than Cn).
-fn assigned_len<R: Rows>(rows: &R, text: &str) -> usize
-    ensures { result ≡ length (encode_utf8_all (take_while (R.properties rows.now).assigned (chars text.now))) }
+/// What stands after the assigned characters at the front of the text (general category other than Cn).
+fn past_assigned<'t, R: Rows>(rows: &R, text: &'t str) -> &'t str
+    ensures after { IsAfterAssigned (R.properties rows.now) text.now result.now }
+    ensures stops { take_while (R.properties rows.now).assigned (chars result.now) ≡ [] }
 {
     let mut rest = text;
     let mut few = 0;
@@ -169,15 +163,15 @@ fn assigned_len<R: Rows>(rows: &R, text: &str) -> usize
         let (more, after) = past_known(rows, few, rest);
         let mut chars = after.chars();
         let Some(c) = chars.next() else {
-            return text.len();
+            return after;
         };
         if !rows.assigned(c) {
-            return text.len() - after.len();
+            return after;
         }
         rest = chars.as_str();
         few = more - 1;
     }
-    text.len()
+    rest
 }
 
 /// What stands after the characters that are known to be assigned, which are asked for where no few are left to be looked

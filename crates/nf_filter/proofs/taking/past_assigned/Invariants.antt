@@ -1,7 +1,7 @@
 use Rattle.nf_filter.proofs.Common.{length, IsAfterAssigned}
 use denote.Shadow.{shadow}
 use denote.Text.{Utf8}
-use Rattle.nf_filter.proofs.taking.assigned_len.Given as goal
+use Rattle.nf_filter.proofs.taking.past_assigned.Given as goal
 
 abbrev pub invariant-loop-rest : goal.invariant-loop-rest
 invariant-loop-rest g l = record {

@@ -1,19 +1,22 @@
 use Rattle.nf_filter.proofs.Common.{rules, sym, ap, ◌∙◌, eqb-true, length, chars_past_char}
 use Rattle.std.proofs.lemmas.List.Sums.{take_while-cons}
-use Rattle.nf_filter.proofs.PassedLemmas.{none_after, piece_after, char_after, stops, ends}
-use Rattle.nf_filter.proofs.taking.assigned_len.Goals as goal
+use Rattle.nf_filter.proofs.PassedLemmas.{none_after, piece_after, char_after, stops_at_end}
+use Rattle.nf_filter.proofs.taking.past_assigned.Goals as goal
 
 pub loop-rest-init : goal.loop-rest-init
 loop-rest-init g c = search (rules, none_after)
 
 pub returns-in_default : goal.returns-in_default
-returns-in_default g c = ends (piece_after c.loop-rest.invariant.after c.past_known-more.ensures.after) (ap length (sym c.chars-chars.ensures.rest) ∙ c.in_default.ensures.steps.0.0)
+returns-in_default g c = record {
+  after = piece_after c.loop-rest.invariant.after c.past_known-more.ensures.after;
+  stops = stops_at_end _ _ (ap length (sym c.chars-chars.ensures.rest) ∙ c.in_default.ensures.steps.0.0);
+}
 
 pub returns-then-not-assigned : goal.returns-then-not-assigned
 returns-then-not-assigned g c =
     let here = piece_after c.loop-rest.invariant.after c.past_known-more.ensures.after in
     let is = chars_past_char _ _ c.in-Some.c here.rest_utf8 (sym c.chars-chars.ensures.rest ∙ c.in-Some.ensures.steps.0) in
-    stops here (rw (is, take_while-cons, sym c.assigned.ensures ∙ c.if-not-assigned.true))
+    record { after = here; stops = rw (is, take_while-cons, sym c.assigned.ensures ∙ c.if-not-assigned.true) }
 
 pub loop-rest-preserved : goal.loop-rest-preserved
 loop-rest-preserved g c =
@@ -24,5 +27,5 @@ loop-rest-preserved g c =
       after = piece_after here (char_after c.in-Some.c here.rest_utf8 c.as_str-rest.utf8 e (sym c.assigned.ensures ∙ c.if-not-assigned.false));
     }
 
-pub returns : goal.returns
-returns g c = ends c.loop-rest.invariant.after (eqb-true _ 0 (sym c.is_empty.ensures ∙ c.loop-rest-test.false))
+pub returns-clause-stops : goal.returns-clause-stops
+returns-clause-stops g c = stops_at_end _ _ (eqb-true _ 0 (sym c.is_empty.ensures ∙ c.loop-rest-test.false))
