@@ -1,15 +1,16 @@
 -- What a filter wrote to the end is a text that is stream-safe and its own form, so that a second one changes nothing.
-use Rattle.nf_filter.proofs.Common.{◌≡◌, ℕ, Bool, true, false, List, [], ◌∷◌, ◌++◌, Option, Some, None, Result, Ok, Err, refl, sym, ap, ◌∙◌, append-nil, eq-eqb, IsTrue, OnOk, encode_utf8_all, inl, all_scalars, Properties, Form, is_sound, stream_safe, safe_form, ChangesOnce, IsSoundText, in_format-unchanged, IsText, Ending, Whole, Cut, text_of, ending_of, replaced, replaced_whole, ReadsLongestText, ReadsBack, ReplacesSubparts, Fault, Policy, Tally, as_is, allowed, text_under, whole_under, is_usable, settled_utf8, answer_at_end, bad_under, fault_in, tally_of, answer_or, end_under, end_of, whole_or, final_under, final_utf8, SinkState, SourceState, Drives, DrivesToEnd, Converts, settled_utf8-none, text_under-none, arith, nat_tests, length, IsLeft}
+use Rattle.nf_filter.proofs.Common.{◌≡◌, ℕ, Bool, true, false, List, [], ◌∷◌, ◌++◌, Option, Some, None, Result, Ok, Err, refl, sym, ap, ◌∙◌, append-nil, eq-eqb, IsTrue, OnOk, encode_utf8_all, inl, all_scalars, Properties, Form, is_sound, stream_safe, safe_form, ChangesOnce, IsSoundText, in_format-unchanged, IsText, Ending, Whole, Cut, text_of, ending_of, replaced, replaced_whole, ReadsLongestText, ReadsBack, ReplacesSubparts, Fault, Policy, Tally, as_is, allowed, text_under, whole_under, is_usable, settled_utf8, answer_at_end, bad_under, fault_in, tally_of, answer_or, end_under, end_of, whole_or, final_under, final_utf8, SinkState, SourceState, Drives, DrivesToEnd, Converts, settled_utf8-none, text_under-none, arith, nat_tests, length, IsLeft, ◌+◌, normal_form, cut-some, sound-source, stream_safe-cut, stream_safe-in_format, len_under, first_fault, is_taken}
 use Rattle.std.proofs.str.Laws.{scalars-append}
 use Rattle.std.proofs.Math.Nat.{sub_self}
 use Rattle.std.proofs.Math.Utf8.{scalar}
 use Rattle.nf_filter.specs.Again.{TakesAll, nothing_put, StaysAsItIs, AddsWhatStays, DrivesOnce, FinishedStays}
-use Rattle.nf_filter.proofs.PolicyLemmas.{first_fault-none, taken}
+use Rattle.nf_filter.proofs.PolicyLemmas.{first_fault-none, taken, taken_whole}
 use Rattle.nf_filter.proofs.WholeLemmas.{Converts-all}
 use Rattle.nf_filter.proofs.ReadingLemmas.{text_of-none, ending_of-none}
 use Rattle.std.proofs.lemmas.Str.{chars-encodes}
 use Rattle.nf_utf8.proofs.LeftLemmas.{IsLeft-text}
 use Rattle.nf_filter.proofs.PieceLemmas.{left-text, left-whole, begun-all}
+use Rattle.nf_filter.specs.Joined.{JoinsPieces}
 
 -- the end is no fault
 pub answered : {A : Type 0} (base : ℕ) (value told : A) (ending : Ending) → answer_at_end base value ending ≡ Ok told → (settled whole : List ℕ) → whole_or ending settled whole ≡ whole
@@ -136,3 +137,23 @@ converts_once law (Err fault) once converts = tt
 converts_once law {f} {p} {bytes = bytes} (Ok tally) once converts =
     let all = Converts-all converts in
     (all.0.out, all.0.given, rw all.0.after at (law as_is f p 0 bytes tally once (sym all.1)))
+
+module _ (p : Properties) (base : ℕ) (bytes : List ℕ) (tally : Tally) where
+  taken-whole : (replace assigned : Bool) → first_fault assigned p (λ front. base + len_under replace bytes front) (text_under replace bytes) (bad_under replace base bytes) ≡ None
+      → end_under replace assigned p base bytes ≡ Ok tally → is_taken assigned p (whole_under replace bytes) ≡ true
+  taken-whole false assigned none end = taken p assigned _ (whole_under false bytes) _ none
+  taken-whole true assigned none end = taken p assigned _ (whole_under true bytes) None (none_told _ (tally_of true p bytes) tally end)
+
+  pub joins_pieces : (policy : Policy) (f : Form) → fault_in policy p base bytes ≡ None → end_of policy p base bytes ≡ Ok tally → JoinsPieces policy f p bytes
+  unfolding fault_in end_of safe_form is_usable
+  joins_pieces policy f none end =
+      let x = whole_under policy.replace bytes in
+      let sound : IsSoundText p (stream_safe p x) = (taken_whole p policy.assigned x (taken-whole policy.replace policy.assigned none end)).0 in
+      let cut = cut-some p x (sound-source p x sound) in
+      let whole : final_utf8 policy f p bytes ≡ encode_utf8_all (normal_form f p (stream_safe p x)) = final-whole p base bytes tally f policy end in
+      record {
+        pieces = cut.0;
+        cut = cut.1;
+        joined = rw (stream_safe-cut p x sound cut.0 cut.1) at whole;
+        in_format = λ inside. rw (stream_safe-in_format p x inside) at whole;
+      }

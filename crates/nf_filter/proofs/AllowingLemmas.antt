@@ -1,6 +1,6 @@
 -- A text of which only assigned characters may be taken.
 use Rattle.nf_filter.proofs.Common.{◌≡◌, ℕ, ◌<◌, Bool, false, List, ◌++◌, length, Some, None, Ok, Err, sym, arith, Result, Properties, Form, Fault, WriteFault, Unassigned, Counted, Start, BlockState, Written, first_fault, taken_utf8, TakesAllowed, HasTaken, IsPlacedAt, settled_text, allowed, Standing, Option, WritesTo, nat_tests}
-use Rattle.nf_filter.proofs.BlockLemmas.{WritesTo-written, Broken-extends}
+use Rattle.nf_filter.proofs.WritesLemmas.{WritesTo-written, Broken-extends}
 use Rattle.nf_filter.proofs.PolicyLemmas.{allowed-append, first_fault-none, first_fault-stays, taken-all, taken_utf8-grows, first_fault-is}
 use Rattle.nf_filter.proofs.TakingLemmas.{placed-within}
 use Rattle.nf_filter.proofs.SteppingLemmas.{Standing-taken}

@@ -1,5 +1,5 @@
 -- What a check decides, character by character.
-use Rattle.nf_filter.proofs.Common.{Checker, HasChecked, place_of, ◌≡◌, ℕ, ◌+◌, ◌<◌, ◌≤◌, Bool, true, false, List, [], ◌∷◌, ◌++◌, length, length-append, length-encode, len_utf8_bounds, encode_utf8, Some, None, Ok, Err, refl, ap, arith, append_assoc, append-nil, if◌then◌else◌, Option, chars, encode_utf8_all, list_all, and_parts, list_all-append, Properties, Nfkd, decomposed, is_sound, text_of, ending_of, Place, place_from, Fault, Row, bad_byte, decided_or, decided_in, sound_front, check_fault, place_or_fault, check_decision, text_decision, CountsFromEnd}
+use Rattle.nf_filter.proofs.Common.{Checker, HasChecked, place_of, ◌≡◌, ℕ, ◌+◌, ◌<◌, ◌≤◌, Bool, true, false, List, [], ◌∷◌, ◌++◌, length, length-append, length-encode, len_utf8_bounds, encode_utf8, Some, None, Ok, Err, refl, ap, arith, append_assoc, append-nil, if◌then◌else◌, Option, chars, encode_utf8_all, list_all, and_parts, list_all-append, Properties, Nfkd, decomposed, is_sound, text_of, ending_of, Place, place_from, Fault, Row, bad_byte, decided_or, decided_in, sound_front, place_or_fault, check_decision, text_decision, CountsFromEnd}
 use Rattle.nf_forms.specs.Laws.Last.{by_last}
 use Rattle.nf_forms.specs.Laws.Runs.{longest-append}
 use Rattle.nf_forms.specs.Laws.StreamSafe.{decomposed-append}
@@ -25,18 +25,6 @@ module _ (p : Properties) where
         → text_decision p base ((x ++ c ∷ []) ++ y) ≡ Some (Err (Row (base + length (encode_utf8_all x))))
     unfolding text_decision
     stop_row x c y all none unsound = rw (take_while-stop (is_sound p) x c y all unsound, none, list_all-append (is_sound p) (x ++ c ∷ []) y, list_all-append (is_sound p) x (c ∷ []), all, unsound)
-
-    -- what the bytes decide is what their text does
-    pub decides : (bytes : List ℕ) → check_decision p base bytes ≡ decided_in (text_decision p base) base bytes
-    unfolding check_decision check_fault text_decision
-    decides bytes = next (place_from base p (sound_front p (text_of bytes))) (list_all (is_sound p) (text_of bytes)) (bad_byte base (ending_of bytes)) _
-      where
-        next : (o : Option Place) (b : Bool) (bad : Option Fault) (row : Fault)
-            → place_or_fault o (if b then bad else Some row) ≡ decided_or (place_or_fault o (if b then None else Some row)) bad
-        next (Some at) b bad row = refl
-        next None true None row = refl
-        next None true (Some fault) row = refl
-        next None false bad row = refl
 
   -- A front of short runs is in the format, and the count is that of its end alone.
   module _ {text before settled rest : List ℕ} {last : ℕ} (safe : IsSafeFront p text before settled last rest) where

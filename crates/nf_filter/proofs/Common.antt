@@ -12,7 +12,7 @@ pub use Rattle.std.specs.List.{list_all, prefix_len}
 pub use Rattle.std.specs.Result.{result_err, result_map_both}
 pub use Rattle.std.specs.Str.{all_scalars, chars as characters}
 pub use Rattle.nf_filter.specs.Block.{Start, BlockState, Written, WritesTo, Broken, WritesOn, block_state}
-unfoldable pub use Rattle.nf_filter.specs.Checks.{check_fault, check_decision, text_decision}
+unfoldable pub use Rattle.nf_filter.specs.Checks.{check_decision, text_decision}
 pub use Rattle.nf_filter.specs.Checks.{sound_front, place_or_fault, no_place, HasChecked}
 pub use Rattle.nf_filter.specs.Counted.{HasTaken, settled_text, IsPlacedAt, told_by, utf8_place, ends_at}
 pub use Rattle.nf_filter.specs.Devices.{SinkState, SourceState}

@@ -1,9 +1,10 @@
--- A piece that was read: what it comes to by the bytes.
-use Rattle.nf_filter.proofs.Common.{cases_Bool, ⊎_elim, ◌≡◌, ℕ, suc, ◌+◌, ◌==◌, true, cond, MatchResult, List, [], ◌∷◌, ◌++◌, length, None, Ok, Err, refl, sym, ap, ◌∙◌, arith, append-nil, OnOk, Result, if◌then◌else◌, result_err, Properties, Form, text_of, replacement, replaced_whole, Fault, Write, Counted, Policy, Reading, Start, BlockState, Written, WritesTo, bad_under, fault_in, IsLeft, HasReadTo, ReadsTo, RefusesBytes, settled_text, len_under, text_under, whole_under, settled_utf8}
-use Rattle.nf_filter.proofs.BlockLemmas.{WritesTo-written}
-use Rattle.nf_filter.proofs.PolicyLemmas.{first_fault-none, taken-all}
+-- A piece that was read: what it comes to by the bytes; and where a filter stands that has taken them, or nothing.
+use Rattle.nf_filter.proofs.Common.{cases_Bool, ⊎_elim, ◌≡◌, ℕ, suc, ◌+◌, ◌==◌, true, cond, MatchResult, List, [], ◌∷◌, ◌++◌, length, None, Ok, Err, refl, sym, ap, ◌∙◌, arith, append-nil, OnOk, Result, if◌then◌else◌, result_err, Properties, Form, text_of, replacement, replaced_whole, Fault, Write, Counted, Policy, Reading, Start, BlockState, Written, WritesTo, bad_under, fault_in, IsLeft, HasReadTo, ReadsTo, RefusesBytes, settled_text, len_under, text_under, whole_under, settled_utf8, false, State, base_of, offset_of, is_spent, StandsAfter, text_under-none, HasTaken, is_usable-none}
+use Rattle.nf_filter.proofs.WritesLemmas.{WritesTo-written}
+use Rattle.nf_filter.proofs.PolicyLemmas.{first_fault-none, taken-all, allowed-none}
 use Rattle.nf_utf8.proofs.LeftLemmas.{IsLeft-more}
 use Rattle.nf_filter.proofs.PieceLemmas.{place_in, left-text, left-place, left-bad, left-whole, len_under-first, begun-text, begun-good, begun-all}
+use Rattle.nf_filter.proofs.ReadingLemmas.{ending_of-none, new-read}
 
 module _ {policy : Policy} {f : Form} {p : Properties} {base : ℕ} {counted : Counted} {reading : Reading} {bytes : List ℕ} (read : HasReadTo policy f p counted base reading bytes []) where
   pub left_is : IsLeft policy.replace bytes read.before read.read.n reading.decoder
@@ -57,3 +58,27 @@ module _ (policy : Policy) (f : Form) (p : Properties) (base : ℕ) (counted : C
   unfolding settled_utf8
   rest-is start bytes (Ok u) reads = (WritesTo-written (λ e. cc) (rw (read-settled reads.0) at reads.1), λ _. sym (read-no_fault reads.0), reads.0)
   rest-is start bytes (Err fault) reads = (reads.writes, λ not. reads.is (λ e. not (ap Err e)), tt)
+
+-- a new filter
+pub StandsAfter-none : {policy : Policy} {f : Form} {p : Properties} (state : State) → is_spent state ≡ false → state.policy ≡ policy → offset_of state ≡ base_of state → state.reading.decoder ≡ []
+    → HasTaken f p state.counted [] → StandsAfter policy f p state []
+unfolding fault_in
+StandsAfter-none {policy} {p = p} state unspent is offset none taken = record {
+  unspent = unspent;
+  policy_is = is;
+  reading = record {
+    before = [];
+    read = new-read policy.replace (base_of state) state.reading offset none;
+    taken = taken;
+    allowed = allowed-none p policy.assigned;
+  };
+  no_fault = rw (text_under-none policy.replace) (first_fault-none p policy.assigned _ [] (bad_under policy.replace (base_of state) []) (is_usable-none p) (allowed-none p policy.assigned) ∙ ⊎_elim (λ e. rw e) (λ e. rw e (rw ending_of-none)) (cases_Bool policy.replace));
+}
+
+-- what was taken is the text of the bytes, and what the decoder holds gave nothing of it
+module _ {policy : Policy} {f : Form} {p : Properties} {state : State} {bytes : List ℕ} (stands : StandsAfter policy f p state bytes) where
+  pub taken-text : text_under policy.replace bytes ≡ stands.reading.before
+  taken-text = read-text stands.reading
+
+  pub taken-len : len_under policy.replace bytes (text_under policy.replace bytes) ≡ stands.reading.read.n
+  taken-len = rw taken-text (omega (arith, read-place stands.reading))

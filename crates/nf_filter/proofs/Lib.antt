@@ -1,10 +1,8 @@
 pub mod Common
 pub mod WritesLemmas
-pub mod BlockLemmas
 pub mod PolicyLemmas
 pub mod PassedLemmas
 pub mod TakingLemmas
-pub mod TakerLemmas
 pub mod SteppingLemmas
 pub mod AllowingLemmas
 pub mod PieceLemmas
@@ -15,7 +13,6 @@ pub mod FilterLemmas
 pub mod CommonLemmas
 pub mod ComparingLemmas
 pub mod FinishLemmas
-pub mod StandingLemmas
 pub mod FeedingLemmas
 pub mod SurveysLemmas
 pub mod ChecksLemmas
@@ -23,5 +20,4 @@ pub mod MeasuresLemmas
 pub mod SoundnessLemmas
 pub mod WholeLemmas
 pub mod AgainLemmas
-pub mod JoinedLemmas
 pub mod SavedLemmas

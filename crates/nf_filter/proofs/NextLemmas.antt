@@ -6,7 +6,7 @@ use Rattle.nf_filter.specs.Kinds.{ill_formed, IsAmong}
 use Rattle.nf_utf8.specs.Replaced.{source_in}
 use Rattle.nf_utf8.proofs.LeftLemmas.{IsLeft-join}
 use Rattle.nf_utf8.proofs.SourceLemmas.{source-none, source-chars}
-use Rattle.nf_filter.proofs.BlockLemmas.{WritesTo-written}
+use Rattle.nf_filter.proofs.WritesLemmas.{WritesTo-written}
 use Rattle.nf_filter.proofs.FilterLemmas.{err_is}
 use Rattle.nf_filter.proofs.PolicyLemmas.{first_fault-none, taken-all}
 use Rattle.nf_filter.proofs.PieceLemmas.{place_in, left-text, left-place, left-bad, text_under-first, len_under-first}

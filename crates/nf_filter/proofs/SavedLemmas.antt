@@ -11,7 +11,7 @@ use Rattle.nf_pending.specs.StandsAfter.{StandsAfter as PendingStandsAfter}
 use Rattle.nf_pending.specs.Laws.Standing.{run_len-trail}
 use Rattle.nf_pending.proofs.Standing.{starter_held}
 use Rattle.nf_utf8.proofs.ReplacedLemmas.{bytes_in-own, bytes_in-append, subpart_end_is, by_subparts, decoded_of-all, decoded_of-ill_formed}
-use Rattle.nf_filter.proofs.StandingLemmas.{taken-text, taken-len}
+use Rattle.nf_filter.proofs.FedLemmas.{taken-text, taken-len}
 
 -- bytes give no more characters than they are
 own_some : (x : List ℕ) → length (decoded_text x) ≤ bytes_in (decoded_text x)

@@ -1,5 +1,5 @@
 -- Where each character is sound, none is refused, and where characters that are not assigned are taken, none for that.
-use Rattle.nf_filter.proofs.Common.{⊎_elim, cases_Bool, ◌≡◌, ℕ, ◌+◌, Bool, true, false, List, [], ◌∷◌, ◌++◌, length, ◌==◌, Option, Some, None, Result, Err, refl, sym, ap, ◌∙◌, option_map, if◌then◌else◌, result_err, list_all, Properties, Form, stream_safe, is_sound, Ending, Bad, Cut, text_of, ending_of, Place, place_from, Fault, BadByte, CutShort, Read, Row, TooLong, Unassigned, Write, Policy, Tally, SinkState, SourceState, is_usable, answer_at_end, bad_byte, bad_under, first_fault, fault_in, tally_of, answer_or, end_under, end_of, allowed, len_under, text_under, whole_under, Feeds, Drives, Surveys, sound_front, check_fault, place_or_fault, check_decision, AreSound}
+use Rattle.nf_filter.proofs.Common.{⊎_elim, cases_Bool, ◌≡◌, ℕ, ◌+◌, Bool, true, false, List, [], ◌∷◌, ◌++◌, length, ◌==◌, Option, Some, None, Result, Err, refl, sym, ap, ◌∙◌, option_map, if◌then◌else◌, result_err, list_all, Properties, Form, stream_safe, is_sound, Ending, Bad, Cut, text_of, ending_of, Place, place_from, Fault, BadByte, CutShort, Read, Row, TooLong, Unassigned, Write, Policy, Tally, SinkState, SourceState, is_usable, answer_at_end, bad_byte, bad_under, first_fault, fault_in, tally_of, answer_or, end_under, end_of, allowed, len_under, text_under, whole_under, Feeds, Drives, Surveys, sound_front, place_or_fault, decided_or, text_decision, check_decision, AreSound}
 use Rattle.nf_filter.specs.Kinds.{row, unassigned, IsAmong}
 use Rattle.nf_filter.proofs.PolicyLemmas.{first_fault-is}
 
@@ -82,10 +82,10 @@ module _ (p : Properties) (sound : AreSound p) (base at : ℕ) where
   not_fed policy f bytes piece old new result feeds = never_fed (Row at) tt p base policy (not_in_text policy.assigned) feeds
 
   pub not_checked : (bytes : List ℕ) → ¬ (check_decision p base bytes ≡ Some (Err (Row at)))
-  unfolding check_decision check_fault
-  not_checked bytes e = not_bad_byte (Row at) tt base (ending_of bytes) (rw (all_sound p sound (text_of bytes)) at (by_place (place_from base p (sound_front p (text_of bytes))) (check_fault p base bytes) e))
+  unfolding check_decision text_decision
+  not_checked bytes e = not_bad_byte (Row at) tt base (ending_of bytes) (by_place (place_from base p (sound_front p (text_of bytes))) (bad_byte base (ending_of bytes)) (rw (all_sound p sound (text_of bytes)) at e))
     where
-      by_place : (place : Option Place) (o : Option Fault) → place_or_fault place o ≡ Some (Err (Row at)) → o ≡ Some (Row at)
+      by_place : (place : Option Place) (o : Option Fault) → decided_or (place_or_fault place None) o ≡ Some (Err (Row at)) → o ≡ Some (Row at)
       by_place None (Some fault) e = cc
       by_place _ _ e = cc
 

@@ -3,7 +3,7 @@ use Rattle.nf_filter.proofs.Common.{⊎_elim, ◌≡◌, ℕ, ◌<◌, List, [],
 use Rattle.nf_normalizer.specs.declared.normalizer.Normalizer.{Normalizer}
 use Rattle.nf_normalizer.specs.Front.{Stands}
 use Rattle.nf_normalizer.specs.Laws.Boundary.{usable-alone, usable_both, settled_text-after}
-use Rattle.nf_filter.proofs.BlockLemmas.{Broken-extends}
+use Rattle.nf_filter.proofs.WritesLemmas.{Broken-extends}
 use Rattle.nf_filter.proofs.PolicyLemmas.{taken_utf8-extends}
 
 pub first-left : (rest : List ℕ) → IsUtf8 rest → 0 < length rest → (c : ℕ) × (more : List ℕ) × (chars rest ≡ c ∷ more)

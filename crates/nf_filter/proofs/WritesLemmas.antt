@@ -1,5 +1,5 @@
--- Calls that give to a sink in turn.
-use Rattle.nf_filter.proofs.Common.{◌≡◌, ℕ, ◌<◌, true, List, [], ◌++◌, length, refl, sym, ◌∙◌, arith, append_assoc, append-nil, length-append, Appends, Appends-nil, Appends-trans, SinkState, Puts, BreaksOff, Extends}
+-- Calls that give to a sink in turn, and what is written through a block.
+use Rattle.nf_filter.proofs.Common.{◌≡◌, ℕ, ◌<◌, true, List, [], ◌++◌, length, refl, sym, ◌∙◌, arith, append_assoc, append-nil, length-append, Appends, Appends-nil, Appends-trans, SinkState, Puts, BreaksOff, Extends, Start, BlockState, Written, WritesTo, Result, Err, Fault, Write}
 
 pub Puts-none : (state : SinkState) (before : List ℕ) → Puts state state before before
 Puts-none state before = record { out = []; after = sym (append-nil before); given = Appends-nil state.taken; stands = refl; idle = λ _. refl }
@@ -54,3 +54,19 @@ BreaksOff-extends longer stops = record {
 -- at the same places
 pub Puts-at : {old new : SinkState} {a b c d : List ℕ} → a ≡ c → b ≡ d → Puts old new a b → Puts old new c d
 Puts-at same_before same_after puts = rw (same_before, same_after) at puts
+
+abbrev pub start_at : SinkState → List ℕ → Start
+start_at sink before = record { sink = sink; before = before; ahead = [] }
+
+-- a new block
+pub Written-none : {sink : SinkState} {kept : List ℕ} (before : List ℕ) → kept ≡ [] → Written (start_at sink before) (record { sink = sink; kept = kept }) before
+Written-none {sink} before none = rw none (record { given = before; puts = Puts-none sink before; text = sym (append-nil before) })
+
+-- what was found is no failure of the sink
+pub WritesTo-written : {start : Start} {now : BlockState} {w : List ℕ} {found : Result (Unit {0}) Fault} → ¬ (found ≡ Err Write) → Written start now w → WritesTo start now w found
+WritesTo-written other written = record { broken = λ e. absurd (other e); written = λ _. written }
+
+-- more is to come after, also where text stands ahead
+pub Broken-extends : (start : Start) {new : SinkState} {a b : List ℕ} → Extends a b → BreaksOff start.sink new start.before (start.ahead ++ a)
+    → BreaksOff start.sink new start.before (start.ahead ++ b)
+Broken-extends start {a = a} more broken = BreaksOff-extends (record { more = more.more; text = simp (more.text, append_assoc) }) broken

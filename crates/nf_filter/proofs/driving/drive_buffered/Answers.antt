@@ -1,7 +1,6 @@
 use Rattle.nf_filter.proofs.Common.{◌++◌, ap}
 use Rattle.nf_filter.proofs.FeedingLemmas.{Drives-finished}
-use Rattle.nf_filter.proofs.AgainLemmas.{drives_to_end}
-use Rattle.nf_filter.proofs.JoinedLemmas.{joins_pieces}
+use Rattle.nf_filter.proofs.AgainLemmas.{drives_to_end, joins_pieces}
 use Rattle.nf_filter.proofs.driving.drive_buffered.Goals as goal
 
 pub returns-clause-drives : goal.returns-clause-drives

@@ -1,5 +1,5 @@
 use Rattle.nf_filter.proofs.Common.{rules, subst, arith, ◌++◌}
-use Rattle.nf_filter.proofs.TakerLemmas.{joined, offset_after, takes-more, takes-whole}
+use Rattle.nf_filter.proofs.TakingLemmas.{joined, offset_after, takes-more, takes-whole}
 use Rattle.nf_filter.proofs.taker.take_text.Goals as goal
 
 pub loop-rest-preserved : goal.loop-rest-preserved

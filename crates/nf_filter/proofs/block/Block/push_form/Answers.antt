@@ -1,5 +1,5 @@
 use Rattle.std.proofs.Common.{◌++◌, refl, sym, append_assoc}
-use Rattle.nf_filter.proofs.BlockLemmas.{Broken-extends}
+use Rattle.nf_filter.proofs.WritesLemmas.{Broken-extends}
 use Rattle.nf_filter.proofs.block.Block.push_form.Goals as goal
 
 pub returns-in-Err-clause-writes : goal.returns-in-Err-clause-writes

@@ -1,6 +1,5 @@
 use Rattle.nf_filter.proofs.Common.{◌≡◌, ℕ, List, [], ◌++◌, refl, append-nil, append_assoc, Result, Ok, Err, MatchResult, Failed, SinkState, Puts, BreaksOff, Start, BlockState, Written, WritesOn}
-use Rattle.nf_filter.proofs.WritesLemmas.{Puts-after, BreaksOff-after}
-use Rattle.nf_filter.proofs.BlockLemmas.{Broken-extends}
+use Rattle.nf_filter.proofs.WritesLemmas.{Puts-after, BreaksOff-after, Broken-extends}
 use Rattle.nf_filter.proofs.block.Block.push_text.Goals as goal
 
 -- past an empty block

@@ -1,6 +1,6 @@
 use Rattle.nf_filter.proofs.Common.{◌≡◌, ℕ, List, [], ◌∷◌, ◌++◌, is_some, None, refl, sym, ap, ◌∙◌, and_from, list_all-append, true_from_ne_false, Properties, is_sound, place_of, HasChecked, HasTakenFront, text_decision, Checker}
 use Rattle.nf_safe.specs.Checker.{HasSeen, offset_of}
-use Rattle.nf_filter.proofs.TakerLemmas.{takes-char, decides-char}
+use Rattle.nf_filter.proofs.TakingLemmas.{takes-char, decides-char}
 use Rattle.nf_filter.proofs.ChecksLemmas.{all_sound-push, stop_place, stop_row}
 use Rattle.nf_filter.proofs.checking.CheckerTaker.take_front.Goals as goal
 

@@ -2,7 +2,7 @@ use Rattle.nf_filter.proofs.Common.{◌≡◌, ℕ, List, [], ◌∷◌, ◌++�
 use Rattle.std.specs.Char.{IsScalar}
 use Rattle.std.proofs.lemmas.Str.{IsUtf8-append, IsUtf8-encode}
 use Rattle.nf_filter.proofs.ChecksLemmas.{shorter}
-use Rattle.nf_filter.proofs.TakerLemmas.{decides-within}
+use Rattle.nf_filter.proofs.TakingLemmas.{decides-within}
 use Rattle.nf_filter.proofs.checking.SafeCheckerTaker.take_front.Goals as goal
 
 in_parts : (text window rest : List ℕ) → IsUtf8 window → text ≡ window ++ rest → chars text ≡ chars window ++ chars rest

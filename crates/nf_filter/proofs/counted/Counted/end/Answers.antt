@@ -1,6 +1,5 @@
 use Rattle.nf_filter.proofs.Common.{◌≡◌, List, ℕ, [], Ok, Err, refl, sym, append-nil, Result, MatchResult, encode_utf8_all, safe_form, Failed, SinkState, Puts, BreaksOff, BlockState, WritesOn, settled_text}
-use Rattle.nf_filter.proofs.WritesLemmas.{Puts-none}
-use Rattle.nf_filter.proofs.BlockLemmas.{start_at}
+use Rattle.nf_filter.proofs.WritesLemmas.{Puts-none, start_at}
 use Rattle.nf_filter.proofs.counted.Counted.end.Goals as goal
 
 ended : (sink : SinkState) (last : BlockState) (before after : List ℕ) (r : Result (Unit {0}) Failed) → (r ≡ Ok tt → last.kept ≡ []) → WritesOn (start_at sink before) last after r

@@ -1,5 +1,5 @@
 use Rattle.nf_filter.proofs.Common.{ℕ, Result, Fault, Err, Row, WriteFault, ◌≡◌, ◌+◌, ◌-◌, [], ◌∷◌, ◌++◌, length, refl, sym, ◌∙◌, arith, rules, encode_utf8_all, append_assoc, length-append, usable-stop, IsUtf8, chars}
-use Rattle.nf_filter.proofs.BlockLemmas.{WritesTo-written}
+use Rattle.nf_filter.proofs.WritesLemmas.{WritesTo-written}
 use Rattle.nf_filter.proofs.PolicyLemmas.{first_fault-stop}
 use Rattle.nf_filter.proofs.TakingLemmas.{front_len, front-joined}
 use Rattle.nf_filter.proofs.SteppingLemmas.{apart, given_to, given_and, stands-failed, stands-moved, Standing-moved}

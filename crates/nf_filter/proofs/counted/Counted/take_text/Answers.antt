@@ -1,6 +1,5 @@
 use Rattle.nf_filter.proofs.Common.{[], ◌≡◌, ⊎_elim, sym, refl, None, false, usable-all, ◌∷◌, ◌++◌, length-append, length, rules, ap, arith, ◌∙◌, chars}
-use Rattle.nf_filter.proofs.TakingLemmas.{front-more, front-whole, nothing-left}
-use Rattle.nf_filter.proofs.TakerLemmas.{joined, placed-left, takes-none, takes-more}
+use Rattle.nf_filter.proofs.TakingLemmas.{front-more, front-whole, nothing-left, joined, placed-left, takes-none, takes-more}
 use Rattle.nf_filter.proofs.PolicyLemmas.{first_fault-none}
 use Rattle.nf_filter.proofs.counted.Counted.take_text.Goals as goal
 

@@ -1,5 +1,5 @@
 use Rattle.std.proofs.Common.{◌∙◌, sym, ap, length}
-use Rattle.nf_filter.proofs.StandingLemmas.{taken-text}
+use Rattle.nf_filter.proofs.FedLemmas.{taken-text}
 use Rattle.nf_filter.proofs.filter.Filter.chars.Goals as goal
 
 pub returns : goal.returns

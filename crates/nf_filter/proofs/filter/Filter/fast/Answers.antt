@@ -1,6 +1,6 @@
 use Rattle.nf_filter.proofs.Common.{refl, arith, rules}
 use Rattle.nf_filter.proofs.ReadingLemmas.{holds_nothing, holds_none}
-use Rattle.nf_filter.proofs.StandingLemmas.{StandsAfter-none}
+use Rattle.nf_filter.proofs.FedLemmas.{StandsAfter-none}
 use Rattle.nf_filter.proofs.filter.Filter.fast.Goals as goal
 
 pub invariant_of-result-clause-ready : goal.invariant_of-result-clause-ready

@@ -1,7 +1,7 @@
 use Rattle.nf_filter.proofs.Common.{Ok, refl, sym, ap, ◌∙◌, arith}
 use Rattle.nf_filter.proofs.FilterLemmas.{StandsAfter-offset, read_before, no_fault_before}
 use Rattle.nf_filter.proofs.WritesLemmas.{Puts-join, BreaksOff-join}
-use Rattle.nf_filter.proofs.JoinedLemmas.{joins_pieces}
+use Rattle.nf_filter.proofs.AgainLemmas.{joins_pieces}
 use Rattle.nf_filter.proofs.FinishLemmas.{Finishes-of}
 use Rattle.nf_filter.proofs.filter.Filter.finish.Goals as goal
 

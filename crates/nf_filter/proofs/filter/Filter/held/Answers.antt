@@ -1,6 +1,6 @@
 use Rattle.nf_filter.proofs.Common.{arith}
 use Rattle.nf_filter.proofs.FilterLemmas.{StandsAfter-offset}
-use Rattle.nf_filter.proofs.StandingLemmas.{taken-text, taken-len}
+use Rattle.nf_filter.proofs.FedLemmas.{taken-text, taken-len}
 use Rattle.nf_filter.proofs.filter.Filter.held.Goals as goal
 
 pub returns-clause-bytes : goal.returns-clause-bytes

@@ -1,6 +1,6 @@
 use Rattle.nf_filter.proofs.Common.{◌≡◌, [], length, refl, arith, length-append, nil_from_length}
 use Rattle.nf_filter.proofs.FilterLemmas.{StandsAfter-offset}
-use Rattle.nf_filter.proofs.StandingLemmas.{StandsAfter-none}
+use Rattle.nf_filter.proofs.FedLemmas.{StandsAfter-none}
 use Rattle.nf_filter.proofs.filter.Filter.policy.Goals as goal
 
 pub returns-clause-stands : goal.returns-clause-stands

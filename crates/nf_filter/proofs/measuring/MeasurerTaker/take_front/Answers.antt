@@ -1,7 +1,7 @@
 use Rattle.nf_filter.proofs.Common.{◌++◌, ℕ, List, Err, sym, ap, ◌∙◌, option_map, HasMeasured, HasTakenFront, unusable_decision, Properties}
 use Rattle.nf_safe.specs.declared.measurer.Measurer.{Measurer}
 use Rattle.nf_safe.specs.Measurer.{HasSeen}
-use Rattle.nf_filter.proofs.TakerLemmas.{offset_after, takes-char, decides-char}
+use Rattle.nf_filter.proofs.TakingLemmas.{offset_after, takes-char, decides-char}
 use Rattle.nf_filter.proofs.MeasuresLemmas.{refusal_at}
 use Rattle.nf_filter.proofs.measuring.MeasurerTaker.take_front.Goals as goal
 

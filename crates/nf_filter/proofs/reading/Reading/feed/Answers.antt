@@ -1,5 +1,5 @@
 use Rattle.nf_filter.proofs.Common.{◌∙◌, ⊎_elim, settled_utf8}
-use Rattle.nf_filter.proofs.BlockLemmas.{Written-none}
+use Rattle.nf_filter.proofs.WritesLemmas.{Written-none}
 use Rattle.nf_filter.proofs.FilterLemmas.{failed_if, write_or_kept}
 use Rattle.nf_filter.proofs.FedLemmas.{reads-more, rest-is}
 use Rattle.nf_filter.proofs.reading.Reading.feed.Goals as goal

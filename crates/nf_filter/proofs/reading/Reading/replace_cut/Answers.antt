@@ -1,8 +1,7 @@
 use Rattle.nf_filter.proofs.Common.{append-nil, decoded_of, [], eq-eqb, ne_eqb, ◌≡◌, true, None, sym, ◌∙◌, arith, ⊎_elim, replacement, allowed, whole_under, is_usable, settled_utf8}
 use Rattle.nf_utf8.proofs.ReplacingLemmas.{replacement-chars}
 use Rattle.nf_utf8.proofs.SourceLemmas.{source-none}
-use Rattle.nf_filter.proofs.WritesLemmas.{Puts-none}
-use Rattle.nf_filter.proofs.BlockLemmas.{start_at, Written-none}
+use Rattle.nf_filter.proofs.WritesLemmas.{Puts-none, start_at, Written-none}
 use Rattle.nf_filter.proofs.FilterLemmas.{write_or_kept}
 use Rattle.nf_filter.proofs.PolicyLemmas.{first_fault-none, taken-all}
 use Rattle.nf_filter.proofs.PieceLemmas.{place_in}
