@@ -4,48 +4,33 @@ use Rattle.nf_filter.proofs.WritesLemmas.{WritesTo-written}
 use Rattle.nf_filter.proofs.PolicyLemmas.{first_fault-none, taken-all, allowed-none}
 use Rattle.nf_utf8.proofs.LeftLemmas.{IsLeft-more}
 use Rattle.nf_filter.proofs.PieceLemmas.{place_in, left-text, left-place, left-bad, left-whole, len_under-first, begun-text, begun-good, begun-all}
-use Rattle.nf_filter.proofs.ReadingLemmas.{ending_of-none, new-read}
+use Rattle.nf_filter.proofs.ReadingLemmas.{ending_of-none, new-read, left_is, read-text, read-good, read-more}
 
 module _ {policy : Policy} {f : Form} {p : Properties} {base : ℕ} {counted : Counted} {reading : Reading} {bytes : List ℕ} (read : HasReadTo policy f p counted base reading bytes []) where
-  pub left_is : IsLeft policy.replace bytes read.before read.read.n reading.decoder
-  left_is = rw (append-nil reading.decoder) at read.read.left
-
-  -- the text that was read
-  pub read-text : text_under policy.replace bytes ≡ read.before
-  read-text = rw (begun-text reading.decoder read.read.begun policy.replace, append-nil read.before) at (left-text left_is)
-
   pub read-settled : settled_text f p read.before ≡ settled_utf8 policy f p bytes
   unfolding settled_utf8
-  read-settled = rw (read-text, taken-all p policy.assigned read.before read.taken.machine.usable read.allowed)
+  read-settled = rw (read-text read.read, taken-all p policy.assigned read.before read.taken.machine.usable read.allowed)
 
   pub read-no_fault : fault_in policy p base bytes ≡ None
   unfolding fault_in
   read-no_fault =
-      first_fault-none p policy.assigned (place_in policy.replace base bytes) (text_under policy.replace bytes) (bad_under policy.replace base bytes) (rw read-text read.taken.machine.usable) (rw read-text read.allowed)
-      ∙ left-bad left_is base ∙ ⊎_elim (λ e. rw e) (λ e. rw e (begun-good reading.decoder read.read.begun (base + read.read.n))) (cases_Bool policy.replace)
+      first_fault-none p policy.assigned (place_in policy.replace base bytes) (text_under policy.replace bytes) (bad_under policy.replace base bytes) (rw (read-text read.read) read.taken.machine.usable) (rw (read-text read.read) read.allowed)
+      ∙ read-good read.read
 
   -- a piece more is to be read
   pub reads-more : (piece : List ℕ) {start : Start} {now : BlockState} → Written start now (settled_utf8 policy f p bytes) → ReadsTo policy f p counted start now base reading (bytes ++ piece) piece
-  reads-more piece written = (
-    record {
-      before = read.before;
-      read = record { n = read.read.n; left = IsLeft-more piece left_is; begun = read.read.begun; offset = read.read.offset };
-      taken = read.taken;
-      allowed = read.allowed;
-    },
-    rw read-settled written,
-  )
+  reads-more piece written = (record { before = read.before; read = read-more read.read piece; taken = read.taken; allowed = read.allowed }, rw read-settled written)
 
   -- where the bytes of a begun character begin
   pub read-place : len_under policy.replace bytes read.before ≡ read.read.n
   read-place =
       let none = len_under-first policy.replace reading.decoder [] (text_of reading.decoder) refl in
-      omega (arith, rw append-nil at (left-place left_is []), none)
+      omega (arith, rw append-nil at (left-place (left_is read.read) []), none)
 
   -- the text where nothing follows
   pub whole_is : policy.replace ≡ true → whole_under policy.replace bytes ≡ read.before ++ (if length reading.decoder == 0 then [] else replacement ∷ [])
   unfolding replaced_whole
-  whole_is replaces = rw replaces (rw (replaces, begun-text reading.decoder read.read.begun true, begun-all reading.decoder read.read.begun) at (left-whole left_is))
+  whole_is replaces = rw replaces (rw (replaces, begun-text reading.decoder read.read.begun true, begun-all reading.decoder read.read.begun) at (left-whole (left_is read.read)))
 
 -- how much is left of a piece, with the bytes that the decoder holds: nothing where all was read
 abbrev pub left_of : ℕ → ℕ → ℕ
@@ -78,7 +63,7 @@ StandsAfter-none {policy} {p = p} state unspent is offset none taken = record {
 -- what was taken is the text of the bytes, and what the decoder holds gave nothing of it
 module _ {policy : Policy} {f : Form} {p : Properties} {state : State} {bytes : List ℕ} (stands : StandsAfter policy f p state bytes) where
   pub taken-text : text_under policy.replace bytes ≡ stands.reading.before
-  taken-text = read-text stands.reading
+  taken-text = read-text stands.reading.read
 
   pub taken-len : len_under policy.replace bytes (text_under policy.replace bytes) ≡ stands.reading.read.n
   taken-len = rw taken-text (omega (arith, read-place stands.reading))

@@ -3,9 +3,9 @@ use Rattle.nf_filter.proofs.Common.{◌==◌, ◌≡◌, ℕ, ◌+◌, Bool, tru
 use Rattle.nf_filter.proofs.WritesLemmas.{Puts-none, Puts-at, BreaksOff-extends}
 use Rattle.nf_filter.proofs.FilterLemmas.{err_is, failed_if}
 use Rattle.nf_filter.proofs.PolicyLemmas.{allowed-append, allowed-grows, taken-all, taken_whole, first_fault-none, taken}
-use Rattle.nf_filter.proofs.PieceLemmas.{place_in, left-end}
-use Rattle.nf_filter.proofs.ReadingLemmas.{end_is as end_valued}
-use Rattle.nf_filter.proofs.FedLemmas.{read-text, read-settled, whole_is as whole_replaced, left_is}
+use Rattle.nf_filter.proofs.PieceLemmas.{place_in}
+use Rattle.nf_filter.proofs.ReadingLemmas.{end_is as end_valued, read-text, read-end}
+use Rattle.nf_filter.proofs.FedLemmas.{read-settled, whole_is as whole_replaced}
 use Rattle.nf_filter.proofs.WholeLemmas.{settled-whole}
 use Rattle.nf_filter.proofs.AgainLemmas.{answered}
 use Rattle.nf_filter.proofs.FeedingLemmas.{fed_by}
@@ -35,23 +35,20 @@ module _ {policy : Policy} {f : Form} {p : Properties} {base : ℕ} {counted : C
 
   -- nothing is replaced
   module _ (strict : policy.replace ≡ false) (sink : SinkState) where
-    end_is : answer_at_end base (tt {0}) (ending_of bytes) ≡ answer_at_end (base + read.read.n) (tt {0}) (ending_of reading.decoder)
-    end_is = left-end (left_is read) strict base
-
     whole_is : whole ≡ text
-    whole_is = strict_whole policy.replace bytes strict ∙ read-text read
+    whole_is = strict_whole policy.replace bytes strict ∙ read-text read.read
 
     pub close-strict : (r : Result (Unit {0}) Fault) → r ≡ answer_at_end (base + read.read.n) (tt {0}) (ending_of reading.decoder) → ((fault : Fault) → r ≡ Err fault → ¬ (fault ≡ Write)) → Closes policy f p counted base bytes sink sink r
     unfolding end_of final_utf8
     close-strict (Ok u) is other =
-        let told : Ok (tt {0}) ≡ answer_at_end base (tt {0}) (ending_of bytes) = is ∙ sym end_is in (
+        let told : Ok (tt {0}) ≡ answer_at_end base (tt {0}) (ending_of bytes) = is ∙ sym (read-end read.read strict) in (
           rw whole_is read.taken,
           rw (whole_is, read-settled read) (Puts-none sink _),
           rw strict (sym (end_valued base _ (ending_of bytes) (Ok tt) told)),
           rw strict (answered base (tt {0}) (tt {0}) (ending_of bytes) (sym told) _ _),
         )
     close-strict (Err fault) is other =
-        let told : Err fault ≡ answer_at_end base (tt {0}) (ending_of bytes) = is ∙ sym end_is in
+        let told : Err fault ≡ answer_at_end base (tt {0}) (ending_of bytes) = is ∙ sym (read-end read.read strict) in
         Finishes-of (Err fault) (λ e. absurd (other fault refl (err_is e)))
         (λ _. (Puts-at refl (rw strict (sym (cut_short base (ending_of bytes) fault _ _ told))) (Puts-none sink (settled_utf8 policy f p bytes)), rw strict (end_valued base _ (ending_of bytes) (Err fault) told)))
 

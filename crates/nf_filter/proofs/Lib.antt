@@ -16,7 +16,6 @@ pub mod FinishLemmas
 pub mod FeedingLemmas
 pub mod SurveysLemmas
 pub mod ChecksLemmas
-pub mod MeasuresLemmas
 pub mod SoundnessLemmas
 pub mod WholeLemmas
 pub mod AgainLemmas

@@ -1,5 +1,5 @@
 -- Where the reading of bytes stands, for what takes their text.
-use Rattle.nf_filter.proofs.Common.{encode_utf8_all, ◌≡◌, ℕ, ◌+◌, ◌-◌, Bool, false, List, [], ◌++◌, length, Some, None, Err, refl, arith, nat_tests, append-nil, nil_from_length, Option, Result, chars, length-drop, result_map_both, utf8_valid_len_le, Ending, Whole, text_of, rest_of, ending_of, DecoderStandsAfter, Fault, Reading, bad_byte, answer_at_end, Survey, Decides, decided_in, HasSurveyed, ReadsText, ReadsOn, HasRead, IsLeft, sym, ◌∙◌, text_under-none}
+use Rattle.nf_filter.proofs.Common.{encode_utf8_all, ◌≡◌, ℕ, ◌+◌, ◌-◌, Bool, false, List, [], ◌++◌, length, Some, None, Err, refl, arith, nat_tests, append-nil, nil_from_length, Option, Result, chars, length-drop, result_map_both, utf8_valid_len_le, Ending, Whole, text_of, rest_of, ending_of, DecoderStandsAfter, Fault, Reading, bad_byte, answer_at_end, Survey, Decides, decided_in, HasSurveyed, ReadsText, ReadsOn, HasRead, IsLeft, sym, ◌∙◌, text_under-none, ⊎_elim, cases_Bool, bad_under, text_under}
 use Rattle.std.specs.Prelude.{IsNone}
 use Rattle.nf_utf8.specs.declared.decoder.Decoder.{Decoder}
 use Rattle.nf_utf8.proofs.LeftLemmas.{IsLeft-all, IsLeft-more, IsLeft-join}
@@ -59,25 +59,25 @@ module _ {stands : List ℕ → Type 0} {base : ℕ} {reading : Reading} {bytes 
       let here : reading.offset - length reading.decoder ≡ base + reads.read.n = omega (arith, reads.read.offset) in
       rw (left-text reads.read.left, none, append-nil reads.before, undecided, left-bad reads.read.left base, ← here, ← told) refl
 
--- all of them were read
-module _ {stands : List ℕ → Type 0} {base : ℕ} {reading : Reading} {bytes : List ℕ} (reads : ReadsText stands base reading bytes []) where
-  pub all-text : text_of bytes ≡ reads.before
-  all-text = rw (append-nil reading.decoder, begun-text reading.decoder reads.read.begun false, append-nil reads.before) at (left-text reads.read.left)
+-- all of the bytes were read
+module _ {r : Bool} {base : ℕ} {reading : Reading} {bytes x : List ℕ} (read : HasRead r base reading bytes [] x) where
+  pub left_is : IsLeft r bytes x read.n reading.decoder
+  left_is = rw (append-nil reading.decoder) at read.left
 
-  pub all-undecided : {T : Type 0} (decides : List ℕ → Option (Result T Fault)) → decides reads.before ≡ None → decided_in decides base bytes ≡ None
-  all-undecided decides undecided =
-      rw (all-text, undecided, rw append-nil at (left-bad reads.read.left base), begun-good reading.decoder reads.read.begun (base + reads.read.n)) refl
+  -- the text that was read
+  pub read-text : text_under r bytes ≡ x
+  read-text = rw (begun-text reading.decoder read.begun r, append-nil x) at (left-text left_is)
+
+  -- which has no bad byte
+  pub read-good : bad_under r base bytes ≡ None
+  read-good = left-bad left_is base ∙ ⊎_elim (λ e. rw e) (λ e. rw e (begun-good reading.decoder read.begun (base + read.n))) (cases_Bool r)
+
+  pub read-end : r ≡ false → answer_at_end base (tt {0}) (ending_of bytes) ≡ answer_at_end (base + read.n) (tt {0}) (ending_of reading.decoder)
+  read-end strict = left-end left_is strict base
 
   -- a piece more is to be read
-  pub reads-more : (piece : List ℕ) → ReadsText stands base reading (bytes ++ piece) piece
-  reads-more piece = record {
-    before = reads.before;
-    read = record { n = reads.read.n; left = rw (append-nil reading.decoder) at (IsLeft-more piece reads.read.left); begun = reads.read.begun; offset = reads.read.offset };
-    taken = reads.taken;
-  }
-
-  pub all-end : answer_at_end base (tt {0}) (ending_of bytes) ≡ answer_at_end (base + reads.read.n) (tt {0}) (ending_of reading.decoder)
-  all-end = rw append-nil at (left-end reads.read.left refl base)
+  pub read-more : (piece : List ℕ) → HasRead r base reading (bytes ++ piece) piece x
+  read-more piece = record { n = read.n; left = IsLeft-more piece left_is; begun = read.begun; offset = read.offset }
 
 -- what a piece more decides
 module _ {T : Type 0} {stands : List ℕ → Type 0} {decides : List ℕ → Option (Result T Fault)} {value : List ℕ → T} {survey : Survey T} {reading : Reading} {bytes : List ℕ} (before : HasSurveyed stands decides value survey reading bytes) where
@@ -85,5 +85,5 @@ module _ {T : Type 0} {stands : List ℕ → Type 0} {decides : List ℕ → Opt
       → (r ≡ survey.decision (bytes ++ piece)) × (IsNone r → HasSurveyed taken decides value survey now (bytes ++ piece))
   surveyed-on piece (Some answer) told undecided = (sym (before.decides (bytes ++ piece) ∙ told), λ none. cc)
   surveyed-on piece None reads undecided =
-      let none = before.decides (bytes ++ piece) ∙ all-undecided reads decides (undecided reads.before reads.taken) in
+      let none = before.decides (bytes ++ piece) ∙ rw (read-text reads.read, undecided reads.before reads.taken, read-good reads.read) refl in
       (sym none, λ _. record { reads = reads; decides = before.decides; worth = before.worth; undecided = none })
