@@ -28,15 +28,13 @@ pub use Rattle.nf_filter.specs.Laws.Settled.{settled_utf8-none, text_under-none}
 pub use Rattle.nf_filter.specs.Laws.Undecided.{checked_undecided, measured_undecided}
 pub use Rattle.nf_filter.specs.Laws.Soundness.{AreSound, RefusesNone}
 pub use Rattle.nf_filter.specs.Measures.{unusable_decision, HasMeasured, measure_decision, text_measure}
-pub use Rattle.nf_filter.specs.Passed.{IsAfterAssigned}
-pub use Rattle.nf_filter.specs.Policy.{as_is, allowed, text_under, whole_under, len_under}
-pub use Rattle.nf_filter.specs.Reads.{HasRead}
+pub use Rattle.nf_filter.specs.Policy.{as_is, allowed, text_under, whole_under, len_under, IsAfterAssigned}
 pub use Rattle.nf_filter.specs.Saved.{saved_of, are_marks, IsCounted, IsRestorable}
 unfoldable pub use Rattle.nf_filter.specs.Settled.{is_usable, settled_utf8, settled}
 pub use Rattle.nf_filter.specs.Settled.{usable}
 pub use Rattle.nf_filter.specs.Stepping.{Standing, StandsInFront}
 pub use Rattle.nf_filter.specs.Surveys.{Survey, Surveys}
-pub use Rattle.nf_filter.specs.Taker.{decided_or, decided_in, Decides, HasTakenFront, HasSurveyed, ReadsText, ReadsOn, IsReady}
+pub use Rattle.nf_filter.specs.Taker.{decided_or, decided_in, Decides, HasTakenFront, HasRead, HasSurveyed, ReadsText, ReadsOn, IsReady}
 unfoldable pub use Rattle.nf_filter.specs.Whole.{whole_utf8, whole_answer}
 pub use Rattle.nf_filter.specs.Whole.{Converts, IsFormOf, IsOfWhole, fault_or}
 pub use Rattle.nf_filter.specs.Writes.{Puts, BreaksOff}

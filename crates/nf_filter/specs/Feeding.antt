@@ -13,7 +13,7 @@ use Rattle.nf_filter.specs.Writes.{Puts, BreaksOff}
 use Rattle.nf_filter.specs.Block.{Start, BlockState, Written, WritesTo}
 use Rattle.nf_filter.specs.Faults.{first_fault, fault_in}
 use Rattle.nf_filter.specs.Counted.{HasTaken, settled_text}
-use Rattle.nf_filter.specs.Reads.{HasRead}
+use Rattle.nf_filter.specs.Taker.{HasRead}
 use Rattle.nf_filter.specs.Policy.{allowed, len_under, text_under, whole_under}
 use Rattle.nf_filter.specs.Settled.{usable, settled_utf8}
 

@@ -7,13 +7,11 @@ pub mod ToWriter
 pub mod FromReader
 pub mod Block
 pub mod Policy
-pub mod Passed
 pub mod Settled
 pub mod Laws
 pub mod Faults
 pub mod Counted
 pub mod Surveys
-pub mod Reads
 pub mod Taker
 pub mod Stepping
 pub mod Feeding

@@ -1,5 +1,6 @@
 -- The text that bytes give under a policy (The Unicode Standard, section 3.9).
-use Rattle.std.specs.Prelude.{true, false, Bool, ℕ, List, length, take_while, encode_utf8_all}
+use Rattle.std.specs.Prelude.{◌≡◌, true, false, Bool, ℕ, List, ◌++◌, length, take_while, chars, IsUtf8, encode_utf8_all}
+use Rattle.std.specs.List.{list_all}
 use Rattle.nf_forms.specs.Properties.{Properties}
 use Rattle.nf_utf8.specs.Reading.{text_of}
 use Rattle.nf_utf8.specs.Replaced.{replaced, replaced_len, replaced_whole}
@@ -28,3 +29,11 @@ len_under true bytes front = replaced_len (length front) bytes
 abbrev pub allowed : Bool → Properties → List ℕ → List ℕ
 allowed false p x = x
 allowed true p x = take_while p.assigned x
+
+-- what stands after a front of assigned characters
+pub record IsAfterAssigned (p : Properties) (text rest : List ℕ) : Type 0 where
+  pub front : List ℕ
+  pub split : text ≡ front ++ rest
+  pub front_utf8 : IsUtf8 front
+  pub rest_utf8 : IsUtf8 rest
+  pub assigned : list_all p.assigned (chars front) ≡ true

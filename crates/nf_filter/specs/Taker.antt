@@ -1,11 +1,12 @@
 -- What becomes of a text that is taken piece by piece.
-use Rattle.std.specs.Prelude.{◌≡◌, false, ℕ, ◌-◌, ◌≤◌, List, [], ◌++◌, length, chars, Option, Some, None, option_map, Result, Ok, Err}
+use Rattle.std.specs.Prelude.{◌≡◌, Bool, false, ℕ, ◌+◌, ◌-◌, ◌≤◌, List, [], ◌++◌, length, chars, Option, Some, None, option_map, Result, Ok, Err}
 use Rattle.std.specs.Borrow.{Bor}
+use Rattle.nf_utf8.specs.Left.{IsLeft}
 use Rattle.nf_utf8.specs.Reading.{text_of, ending_of}
+use Rattle.nf_utf8.specs.Subpart.{IsSubpart}
 use Rattle.nf_filter.specs.declared.fault.Fault.{Fault}
 use Rattle.nf_filter.specs.declared.reading.Reading.{Reading}
 use Rattle.nf_filter.specs.Faults.{bad_byte}
-use Rattle.nf_filter.specs.Reads.{HasRead}
 use Rattle.nf_filter.specs.Surveys.{Survey}
 
 -- the text x decides this, whatever follows. `decides` says what a text decides.
@@ -35,6 +36,14 @@ decided_or None fault = option_map Err fault
 
 abbrev pub decided_in : {T : Type 0} → (List ℕ → Option (Result T Fault)) → ℕ → List ℕ → Option (Result T Fault)
 decided_in decides base bytes = decided_or (decides (text_of bytes)) (bad_byte base (ending_of bytes))
+
+-- of the bytes, the first of which has the offset `base`, all but `rest` were read: they gave the text x, but for those of a
+-- begun character
+pub record HasRead (replace : Bool) (base : ℕ) (reading : Reading) (bytes rest x : List ℕ) : Type 0 where
+  pub n : ℕ
+  pub left : IsLeft replace bytes x n (reading.decoder ++ rest)
+  pub begun : IsSubpart reading.decoder
+  pub offset : reading.offset ≡ base + n + length reading.decoder
 
 -- of the bytes all but `rest` were read, and what they gave was taken
 pub record ReadsText (stands : List ℕ → Type 0) (base : ℕ) (reading : Reading) (bytes rest : List ℕ) : Type 0 where

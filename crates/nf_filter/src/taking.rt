@@ -2,8 +2,7 @@
 ghost use Rattle.std.specs.Prelude.{◌≡◌, ◌<◌, ◌≤◌, ◌++◌, true, [], length, take, chars, take_while};
 ghost use Rattle.std.specs.List.{list_all};
 ghost use Rattle.std.specs.Str.{IsCharBoundary};
-ghost use Rattle.nf_filter.specs.Passed.{IsAfterAssigned};
-ghost use Rattle.nf_filter.specs.Policy.{allowed};
+ghost use Rattle.nf_filter.specs.Policy.{allowed, IsAfterAssigned};
 
 use crate::block::Block;
 use crate::counted::Counted;

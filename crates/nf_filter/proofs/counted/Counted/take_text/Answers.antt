@@ -1,5 +1,5 @@
 use Rattle.nf_filter.proofs.Common.{[], ◌≡◌, ⊎_elim, sym, refl, None, false, usable-all, ◌∷◌, ◌++◌, length-append, length, rules, ap, arith, ◌∙◌, chars}
-use Rattle.nf_filter.proofs.TakingLemmas.{front-more, front-whole, nothing-left, joined, placed-left, takes-none, takes-more}
+use Rattle.nf_filter.proofs.TakingLemmas.{front-whole, nothing-left, joined, placed-left, takes-none, takes-more}
 use Rattle.nf_filter.proofs.PolicyLemmas.{first_fault-none}
 use Rattle.nf_filter.proofs.counted.Counted.take_text.Goals as goal
 
@@ -10,7 +10,6 @@ pub loop-rest-preserved : goal.loop-rest-preserved
 loop-rest-preserved g c = record {
   utf8 = search rules;
   left = omega (arith, c.in-Ok.ensures.passes.leaves.shorter, c.loop-rest.invariant.left);
-  gone = (c.loop-rest.invariant.gone.0 ++ c.in-Ok.ensures.passes.leaves.front, front-more c.args.text.now c.loop-rest.invariant.gone.0 c.loop-rest.rest.now c.loop-rest.invariant.gone.1 c.in-Ok.ensures.passes.leaves.front c.in-Ok.after.now c.in-Ok.ensures.passes.leaves.is_front);
   within = c.in-Ok.ensures.passes.within;
   chars = c.in-Ok.ensures.passes.count ∙ c.loop-rest.invariant.chars;
   put = let leaves = c.in-Ok.ensures.passes.leaves in

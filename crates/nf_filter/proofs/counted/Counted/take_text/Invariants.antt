@@ -5,7 +5,6 @@ abbrev pub invariant-loop-rest : goal.invariant-loop-rest
 invariant-loop-rest g l = record {
   utf8 : IsUtf8 l.rest;
   left : length l.rest ≤ length l.text;
-  gone : (front : List ℕ) × (characters l.text ≡ front ++ characters l.rest);
   within : IsWithin l.self.normalizer;
   chars : l.self.chars ≡ l.fn.self.chars;
   put : l.self.put + length (characters l.rest) ≤ l.fn.self.put + length (characters l.text);
