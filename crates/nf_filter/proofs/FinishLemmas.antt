@@ -1,5 +1,5 @@
 -- What finishing answers.
-use Rattle.nf_filter.proofs.Common.{◌==◌, ◌≡◌, ℕ, ◌+◌, Bool, true, false, List, [], ◌∷◌, ◌++◌, length, None, Ok, Err, ⊎_elim, refl, sym, ap, ◌∙◌, arith, append-nil, eq-eqb, Result, if◌then◌else◌, encode_utf8_all, length-append, cases_Bool, false_from_ne_true, and_from, Properties, Form, safe_form, Ending, Cut, ending_of, replacement, Fault, Write, Counted, Policy, Reading, Tally, SinkState, Puts, BreaksOff, allowed, text_under, whole_under, settled, is_usable, usable, settled_utf8, answer_at_end, first_fault, taken_utf8, HasReadTo, ReplacesCut, tally_of, answer_or, end_of, whole_or, is_taken, final_utf8, Closes, Finishes, Extends-encodes, usable-all, usable-stop, nil_from_length}
+use Rattle.nf_filter.proofs.Common.{◌==◌, ◌≡◌, ℕ, ◌+◌, Bool, true, false, List, [], ◌∷◌, ◌++◌, length, None, Ok, Err, ⊎_elim, refl, sym, ap, ◌∙◌, arith, append-nil, eq-eqb, Result, if◌then◌else◌, encode_utf8_all, length-append, cases_Bool, false_from_ne_true, and_from, Properties, Form, safe_form, Ending, Cut, ending_of, replacement, Fault, Write, Counted, Policy, Reading, Tally, SinkState, Puts, BreaksOff, allowed, text_under, whole_under, settled, is_usable, usable, settled_utf8, answer_at_end, first_fault, taken_utf8, HasReadTo, HasTaken, OnOk, result_err, tally_of, answer_or, end_of, whole_or, is_taken, final_utf8, Closes, Finishes, Extends-encodes, usable-all, usable-stop, nil_from_length}
 use Rattle.nf_filter.proofs.WritesLemmas.{Puts-none, Puts-at, BreaksOff-extends}
 use Rattle.nf_filter.proofs.FilterLemmas.{err_is, failed_if}
 use Rattle.nf_filter.proofs.PolicyLemmas.{allowed-append, allowed-grows, taken-all, taken_whole, first_fault-none, taken}
@@ -85,18 +85,21 @@ module _ {policy : Policy} {f : Form} {p : Properties} {base : ℕ} {counted : C
     unfolding end_of
     end_at = rw replaces refl
 
-    pub close-replaced : {after : Counted} {old new : SinkState} (r : Result (Unit {0}) Fault) → ReplacesCut policy f p after base bytes old new r → Closes policy f p after base bytes old new r
-    close-replaced (Ok u) cut =
-        let none = sym (cut.fault (λ e. cc)) in
-        let machine = cut.taken.0.machine in (
-          cut.taken.0,
-          rw (taken-all p policy.assigned whole machine.usable cut.taken.1) at (cut.puts (λ e. cc)),
+    pub close-replaced : (after : Counted) {old new : SinkState} (r : Result (Unit {0}) Fault)
+        → (r ≡ Err Write → BreaksOff old new (settled_utf8 policy f p bytes) (taken_utf8 policy.assigned f p whole)) → (¬ (r ≡ Err Write) → Puts old new (settled_utf8 policy f p bytes) (taken_utf8 policy.assigned f p whole))
+        → (¬ (r ≡ Err Write) → result_err r ≡ first_fault policy.assigned p (place_in policy.replace base bytes) whole None) → OnOk r (HasTaken f p after whole × (allowed policy.assigned p whole ≡ whole))
+        → Closes policy f p after base bytes old new r
+    close-replaced after (Ok u) broken puts fault has =
+        let none = sym (fault (λ e. cc)) in
+        let machine = has.0.machine in (
+          has.0,
+          rw (taken-all p policy.assigned whole machine.usable has.1) at (puts (λ e. cc)),
           rw none at end_at,
           final_is true (taken p policy.assigned _ whole None none),
         )
-    close-replaced (Err fault) cut = Finishes-of (Err fault)
+    close-replaced after (Err fault) broken puts first has = Finishes-of (Err fault)
         (λ e.
-        let broken = cut.broken (cc) in
+        let broken = broken (cc) in
         ⊎_elim
         (λ all.
         let both = taken_whole p policy.assigned whole all in
@@ -105,8 +108,8 @@ module _ {policy : Policy} {f : Form} {p : Properties} {base : ℕ} {counted : C
         (cases_Bool (is_taken policy.assigned p whole)))
         (λ not.
         let other : ¬ (fed_by fault ≡ Err Write) = λ e. not (cc) in
-        let told = cut.fault other in
+        let told = first other in
         let out : is_taken policy.assigned p whole ≡ false = false_from_ne_true _ (λ all.
         let both = taken_whole p policy.assigned whole all in
         let never = told ∙ first_fault-none p policy.assigned _ whole None both.0 both.1 in cc) in
-        (rw (final_is false out) (rw (kept out) at (cut.puts other)), sym (rw (← told) at end_at)))
+        (rw (final_is false out) (rw (kept out) at (puts other)), sym (rw (← told) at end_at)))

@@ -44,10 +44,3 @@ ReadsTo policy f p counted start now base reading bytes rest =
 pub record RefusesBytes (policy : Policy) (f : Form) (p : Properties) (start : Start) (now : BlockState) (base : ℕ) (bytes : List ℕ) (fault : Fault) : Type 0 where
   pub writes : WritesTo start now (taken_utf8 policy.assigned f p (text_under policy.replace bytes)) (Err fault)
   pub is : ¬ (fault ≡ Write) → Some fault ≡ fault_in policy p base bytes
-
--- after the bytes U+FFFD was taken for a character that the end cuts, or why not
-pub record ReplacesCut (policy : Policy) (f : Form) (p : Properties) (counted : Counted) (base : ℕ) (bytes : List ℕ) (old new : SinkState) (result : Result (Unit {0}) Fault) : Type 0 where
-  pub broken : result ≡ Err Write → BreaksOff old new (settled_utf8 policy f p bytes) (taken_utf8 policy.assigned f p (whole_under policy.replace bytes))
-  pub puts : ¬ (result ≡ Err Write) → Puts old new (settled_utf8 policy f p bytes) (taken_utf8 policy.assigned f p (whole_under policy.replace bytes))
-  pub fault : ¬ (result ≡ Err Write) → result_err result ≡ first_fault policy.assigned p (λ front. base + len_under policy.replace bytes front) (whole_under policy.replace bytes) None
-  pub taken : OnOk result (HasTaken f p counted (whole_under policy.replace bytes) × (allowed policy.assigned p (whole_under policy.replace bytes) ≡ whole_under policy.replace bytes))

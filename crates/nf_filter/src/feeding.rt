@@ -14,7 +14,7 @@ impl Reading {
     ghost use Rattle.nf_forms.specs.declared.form.Form.{Form};
     ghost use Rattle.nf_filter.specs.Block.{Start, block_state};
     ghost use Rattle.nf_filter.specs.Faults.{IsOfClosing, IsOfReading, IsOfTaking, fault_in};
-    ghost use Rattle.nf_filter.specs.Feeding.{HasReadTo, ReadsTo, RefusesBytes, ReplacesCut};
+    ghost use Rattle.nf_filter.specs.Feeding.{HasReadTo, ReadsTo, RefusesBytes};
     ghost use Rattle.nf_filter.specs.Feeds.{Feeds};
     ghost use Rattle.nf_filter.specs.Finishes.{Closes};
     ghost use Rattle.nf_filter.specs.Counted.{ends_at};
@@ -125,7 +125,7 @@ impl Reading {
         ensures faults { IfErr result IsOfTaking }
         ensures cut { let p = R.properties rows.now in
             (f : Form) (base : ℕ) (bytes : List ℕ) → HasReadTo policy f p counted.old base self.now bytes [] → policy.replace ≡ true
-            → ReplacesCut policy f p counted.new base bytes (S.state sink.old) (S.state sink.new) result }
+            → Closes policy f p counted.new base bytes (S.state sink.old) (S.state sink.new) result }
         ensures lender { (S.state sink.new).lender ≡ (S.state sink.old).lender }
     {
         let carried = self.decoder.carried();

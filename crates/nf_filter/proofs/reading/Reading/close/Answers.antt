@@ -1,11 +1,7 @@
 use Rattle.nf_filter.proofs.Common.{Err, ◌∙◌, ◌+◌, ap}
 use Rattle.nf_utf8.proofs.StandingLemmas.{stands_alone}
-use Rattle.nf_filter.proofs.FinishLemmas.{close-strict, close-replaced}
+use Rattle.nf_filter.proofs.FinishLemmas.{close-strict}
 use Rattle.nf_filter.proofs.reading.Reading.close.Goals as goal
-
-pub returns-then-policy-clause-closes : goal.returns-then-policy-clause-closes
-returns-then-policy-clause-closes g c = λ f base bytes read.
-    close-replaced read c.if-policy.true c.replace_cut.result (c.replace_cut.ensures.cut f base bytes read c.if-policy.true)
 
 pub returns-clause-closes : goal.returns-clause-closes
 returns-clause-closes g c = λ f base bytes read.

@@ -1,4 +1,4 @@
-use Rattle.nf_filter.proofs.Common.{append-nil, decoded_of, [], eq-eqb, ne_eqb, ◌≡◌, true, None, sym, ◌∙◌, arith, ⊎_elim, replacement, allowed, whole_under, is_usable, settled_utf8}
+use Rattle.nf_filter.proofs.Common.{append-nil, decoded_of, [], eq-eqb, ne_eqb, ◌≡◌, true, None, Ok, sym, ◌∙◌, arith, ⊎_elim, replacement, allowed, whole_under, is_usable, settled_utf8}
 use Rattle.nf_utf8.proofs.ReplacingLemmas.{replacement-chars}
 use Rattle.nf_utf8.proofs.SourceLemmas.{source-none}
 use Rattle.nf_filter.proofs.WritesLemmas.{Puts-none, start_at, Written-none}
@@ -7,6 +7,7 @@ use Rattle.nf_filter.proofs.PolicyLemmas.{first_fault-none, taken-all}
 use Rattle.nf_filter.proofs.PieceLemmas.{place_in}
 use Rattle.nf_filter.proofs.TakingLemmas.{one_placed}
 use Rattle.nf_filter.proofs.FedLemmas.{read-settled, read-place, whole_is}
+use Rattle.nf_filter.proofs.FinishLemmas.{close-replaced}
 use Rattle.nf_filter.proofs.reading.Reading.replace_cut.Goals as goal
 
 pub returns-then-carried-eq0-clause-cut : goal.returns-then-carried-eq0-clause-cut
@@ -17,12 +18,8 @@ returns-then-carried-eq0-clause-cut g c = λ f base bytes read replaces.
     let is : whole ≡ read.before = rw (eq-eqb _ 0 (sym c.carried-carried.ensures.count ∙ c.if-carried-eq0.true)) at (whole_is read replaces) ∙ append-nil read.before in
     let sound : is_usable p whole ≡ true = rw is read.taken.machine.usable in
     let all : allowed policy.assigned p whole ≡ whole = rw is read.allowed in
-    record {
-      broken = λ e. cc;
-      puts = λ _. rw (taken-all p policy.assigned whole sound all, is, read-settled read) (Puts-none _ _);
-      fault = λ _. sym (first_fault-none p policy.assigned (place_in policy.replace base bytes) whole None sound all);
-      taken = (rw is read.taken, all);
-    }
+    close-replaced read replaces _ (Ok tt) (λ e. cc) (λ _. rw (taken-all p policy.assigned whole sound all, is, read-settled read) (Puts-none _ _))
+    (λ _. sym (first_fault-none p policy.assigned (place_in policy.replace base bytes) whole None sound all)) (rw is read.taken, all)
 
 pub returns-clause-cut : goal.returns-clause-cut
 returns-clause-cut g c = λ f base bytes read replaces.
@@ -33,12 +30,8 @@ returns-clause-cut g c = λ f base bytes read replaces.
     let here = rw (← rw (ne_eqb _ 0 (λ e. c.if-carried-eq0.false (held ∙ e))) at (whole_is read replaces)) at
     (takes f place read.before start read.taken read.allowed (one_placed place _ _ read.before replacement (omega (arith, read-place read, held, read.read.offset, source-none (decoded_of [])))) (rw (read-settled read) (Written-none _ c.new-block.ensures.empty))) in
     let closed = c.close.ensures.gives _ _ here.writes in
-    record {
-      broken = closed.broken;
-      puts = λ not. (closed.given not).0;
-      fault = λ not. rw (closed.given not).1 (here.fault (λ e. not ((closed.given not).1 ∙ e)));
-      taken = ⊎_elim (λ e. rw e tt) (λ not. rw (closed.given not).1 here.taken) (write_or_kept c.close.result);
-    }
+    close-replaced read replaces _ c.close.result closed.broken (λ not. (closed.given not).0) (λ not. rw (closed.given not).1 (here.fault (λ e. not ((closed.given not).1 ∙ e))))
+    (⊎_elim (λ e. rw e tt) (λ not. rw (closed.given not).1 here.taken) (write_or_kept c.close.result))
 
 pub take_allowed-taken-requires-clause-counts : goal.take_allowed-taken-requires-clause-counts
 take_allowed-taken-requires-clause-counts g c = rw replacement-chars (omega (arith, c.requires.ready.end.1, c.carried-carried.ensures.count, c.if-carried-eq0.false))
