@@ -1,5 +1,5 @@
 -- What a check decides, character by character.
-use Rattle.nf_filter.proofs.Common.{Checker, HasChecked, place_of, ◌≡◌, ℕ, ◌+◌, ◌<◌, ◌≤◌, Bool, true, false, List, [], ◌∷◌, ◌++◌, length, length-append, length-encode, len_utf8_bounds, encode_utf8, Some, None, Ok, Err, refl, ap, arith, append_assoc, append-nil, if◌then◌else◌, Option, chars, encode_utf8_all, list_all, and_parts, list_all-append, Properties, Nfkd, decomposed, is_sound, text_of, ending_of, Place, place_from, Fault, Row, bad_byte, decided_or, decided_in, sound_front, place_or_fault, check_decision, text_decision, CountsFromEnd}
+use Rattle.nf_filter.proofs.Common.{Checker, HasChecked, place_of, ◌≡◌, ℕ, ◌+◌, ◌<◌, ◌≤◌, true, false, List, [], ◌∷◌, ◌++◌, length, length-append, length-encode, len_utf8_bounds, encode_utf8, Some, None, Ok, Err, refl, ap, arith, append_assoc, append-nil, chars, encode_utf8_all, list_all, and_parts, list_all-append, Properties, Nfkd, decomposed, is_sound, Place, place_from, Row, sound_front, text_decision, CountsFromEnd}
 use Rattle.nf_forms.specs.Laws.Last.{by_last}
 use Rattle.nf_forms.specs.Laws.Runs.{longest-append}
 use Rattle.nf_forms.specs.Laws.StreamSafe.{decomposed-append}

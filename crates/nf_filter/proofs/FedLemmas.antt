@@ -1,9 +1,8 @@
 -- A piece that was read: what it comes to by the bytes; and where a filter stands that has taken them, or nothing.
-use Rattle.nf_filter.proofs.Common.{cases_Bool, ⊎_elim, ◌≡◌, ℕ, suc, ◌+◌, ◌==◌, true, cond, MatchResult, List, [], ◌∷◌, ◌++◌, length, None, Ok, Err, refl, sym, ap, ◌∙◌, arith, append-nil, OnOk, Result, if◌then◌else◌, result_err, Properties, Form, text_of, replacement, replaced_whole, Fault, Write, Counted, Policy, Reading, Start, BlockState, Written, WritesTo, bad_under, fault_in, IsLeft, HasReadTo, ReadsTo, RefusesBytes, settled_text, len_under, text_under, whole_under, settled_utf8, false, State, base_of, offset_of, is_spent, StandsAfter, text_under-none, HasTaken, is_usable-none}
+use Rattle.nf_filter.proofs.Common.{cases_Bool, ⊎_elim, ◌≡◌, ℕ, suc, ◌+◌, ◌==◌, true, cond, MatchResult, List, [], ◌∷◌, ◌++◌, length, None, Ok, Err, refl, sym, ap, ◌∙◌, arith, append-nil, OnOk, Result, if◌then◌else◌, result_err, Properties, Form, text_of, replacement, replaced_whole, Fault, Write, Counted, Policy, Reading, Start, BlockState, Written, WritesTo, bad_under, fault_in, HasReadTo, ReadsTo, RefusesBytes, settled_text, len_under, text_under, whole_under, settled_utf8, false, State, base_of, offset_of, is_spent, StandsAfter, text_under-none, HasTaken, is_usable-none}
 use Rattle.nf_filter.proofs.WritesLemmas.{WritesTo-written}
 use Rattle.nf_filter.proofs.PolicyLemmas.{first_fault-none, taken-all, allowed-none}
-use Rattle.nf_utf8.proofs.LeftLemmas.{IsLeft-more}
-use Rattle.nf_filter.proofs.PieceLemmas.{place_in, left-text, left-place, left-bad, left-whole, len_under-first, begun-text, begun-good, begun-all}
+use Rattle.nf_filter.proofs.PieceLemmas.{place_in, left-place, left-whole, len_under-first, begun-text, begun-all}
 use Rattle.nf_filter.proofs.ReadingLemmas.{ending_of-none, new-read, left_is, read-text, read-good, read-more}
 
 module _ {policy : Policy} {f : Form} {p : Properties} {base : ℕ} {counted : Counted} {reading : Reading} {bytes : List ℕ} (read : HasReadTo policy f p counted base reading bytes []) where

@@ -1,5 +1,5 @@
 -- What feeding all that a source gives comes to, by where it stopped, and driving a filter over it.
-use Rattle.nf_filter.proofs.Common.{◌≡◌, ℕ, ◌+◌, ◌<◌, ◌≤◌, ◌^◌, ◌↔◌, ◌⊎◌, true, false, List, [], ◌++◌, length, Some, None, Ok, Err, ⊎_elim, refl, sym, ◌∙◌, arith, append_assoc, append-nil, IsFalse, Result, length-append, Consumes, IsAtEnd, cases_lt, Properties, Form, Fault, Policy, TooLong, Read, Write, State, Tally, SinkState, SourceState, Puts, BreaksOff, settled_utf8, fault_in, base_of, offset_of, is_spent, StandsAfter, Feeds, Finishes, Drives}
+use Rattle.nf_filter.proofs.Common.{◌≡◌, ℕ, ◌+◌, ◌<◌, ◌≤◌, ◌^◌, ◌↔◌, ◌⊎◌, true, false, List, [], ◌++◌, length, Some, None, Ok, Err, ⊎_elim, refl, arith, append_assoc, append-nil, IsFalse, Result, length-append, Consumes, IsAtEnd, cases_lt, Properties, Form, Fault, Policy, TooLong, Read, Write, State, Tally, SinkState, SourceState, Puts, BreaksOff, settled_utf8, fault_in, base_of, offset_of, is_spent, StandsAfter, Feeds, Finishes, Drives}
 use Rattle.nf_filter.specs.Drives.{HasFed, due_utf8}
 use Rattle.nf_filter.proofs.WritesLemmas.{Puts-none, Puts-join, BreaksOff-join}
 use Rattle.nf_filter.proofs.FilterLemmas.{failed_if, StandsAfter-offset, StandsAfter-fits}

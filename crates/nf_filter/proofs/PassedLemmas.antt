@@ -1,5 +1,5 @@
 -- How far a text is assigned, piece by piece.
-use Rattle.nf_filter.proofs.Common.{◌≡◌, ℕ, ◌-◌, Bool, true, List, [], ◌++◌, length, refl, sym, ap, ◌∙◌, arith, length-append, append_assoc, append-nil, take, take_at, take_while, chars, encode_utf8, encode_utf8_all, IsUtf8, list_all-append, chars-nil, chars-append, IsUtf8-append, IsUtf8-take, IsCharBoundary-at_seam, encodes-chars, Properties, IsAfterAssigned}
+use Rattle.nf_filter.proofs.Common.{◌≡◌, ℕ, ◌-◌, Bool, true, List, [], ◌++◌, length, refl, sym, ap, ◌∙◌, arith, length-append, append_assoc, append-nil, take, take_at, take_while, chars, encode_utf8, IsUtf8, list_all-append, chars-nil, chars-append, IsUtf8-append, IsUtf8-take, IsCharBoundary-at_seam, Properties, IsAfterAssigned}
 use Rattle.nf_filter.proofs.PolicyLemmas.{take_while-append}
 use Rattle.nf_filter.proofs.TakingLemmas.{nothing-left, chars_of_one}
 

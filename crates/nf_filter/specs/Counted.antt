@@ -1,16 +1,11 @@
 -- Where the characters taken leave a normalizer whose characters are counted.
-use Rattle.std.specs.Prelude.{◌≡◌, ℕ, ◌+◌, ◌≤◌, List, ◌∷◌, ◌++◌, length, encode_utf8_all, Option, Some, None, Result, Err, OnOk, if◌then◌else◌}
-use Rattle.std.specs.Result.{result_err}
+use Rattle.std.specs.Prelude.{◌≡◌, ℕ, ◌+◌, ◌≤◌, List, ◌∷◌, ◌++◌, length, encode_utf8_all}
 use Rattle.nf_forms.specs.Properties.{Properties}
 use Rattle.nf_forms.specs.declared.form.Form.{Form}
 use Rattle.nf_forms.specs.StreamSafe.{stream_safe}
 use Rattle.nf_utf8.specs.Replaced.{decoded_of, source_in}
 use Rattle.nf_normalizer.specs.Normalizer.{HasTaken as Takes, IsWithin as IsReady}
 use Rattle.nf_filter.specs.declared.counted.Counted.{Counted}
-use Rattle.nf_filter.specs.declared.fault.Fault.{Fault}
-use Rattle.nf_filter.specs.declared.fault.Fault.TheVariants.{Row, Write as WriteFault}
-use Rattle.nf_filter.specs.Settled.{is_usable, usable}
-use Rattle.nf_filter.specs.Block.{Start, BlockState, WritesTo}
 pub use Rattle.nf_normalizer.specs.Normalizer.{settled_text}
 
 -- the characters x were taken, and counted

@@ -1,5 +1,5 @@
 -- How a piece is read for a counted, under a policy.
-use Rattle.std.specs.Prelude.{◌≡◌, Bool, ℕ, ◌+◌, List, Some, None, Result, Err, OnOk}
+use Rattle.std.specs.Prelude.{◌≡◌, Bool, ℕ, List, Some, None, Result, Err, OnOk}
 use Rattle.std.specs.Result.{result_err}
 use Rattle.nf_forms.specs.Properties.{Properties}
 use Rattle.nf_forms.specs.declared.form.Form.{Form}
@@ -8,14 +8,12 @@ use Rattle.nf_filter.specs.declared.fault.Fault.TheVariants.{Write}
 use Rattle.nf_filter.specs.declared.counted.Counted.{Counted}
 use Rattle.nf_filter.specs.declared.policy.Policy.{Policy}
 use Rattle.nf_filter.specs.declared.reading.Reading.{Reading}
-use Rattle.nf_filter.specs.Devices.{SinkState}
-use Rattle.nf_filter.specs.Writes.{Puts, BreaksOff}
 use Rattle.nf_filter.specs.Block.{Start, BlockState, Written, WritesTo}
 use Rattle.nf_filter.specs.Faults.{first_fault, fault_in}
 use Rattle.nf_filter.specs.Counted.{HasTaken, settled_text}
 use Rattle.nf_filter.specs.Taker.{HasRead}
-use Rattle.nf_filter.specs.Policy.{allowed, len_under, text_under, whole_under}
-use Rattle.nf_filter.specs.Settled.{usable, settled_utf8}
+use Rattle.nf_filter.specs.Policy.{allowed, text_under}
+use Rattle.nf_filter.specs.Settled.{usable}
 
 -- what is settled of a text, as far as that is taken
 abbrev pub taken_utf8 : Bool → Form → Properties → List ℕ → List ℕ

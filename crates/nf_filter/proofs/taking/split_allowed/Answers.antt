@@ -1,4 +1,4 @@
-use Rattle.nf_filter.proofs.Common.{refl, append-nil, take-append-drop, rules, chars, chars-nil, chars-append, IsUtf8, IsCharBoundary-at_seam}
+use Rattle.nf_filter.proofs.Common.{refl, append-nil, take-append-drop, rules, chars-nil, chars-append, IsUtf8, IsCharBoundary-at_seam}
 use Rattle.nf_filter.proofs.PassedLemmas.{front_len, front_at, front_is}
 use Rattle.nf_filter.proofs.taking.split_allowed.Goals as goal
 

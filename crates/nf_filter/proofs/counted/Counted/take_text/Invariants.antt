@@ -1,4 +1,4 @@
-use Rattle.nf_filter.proofs.Common.{◌≡◌, ℕ, ◌+◌, ◌≤◌, List, ◌++◌, length, IsUtf8, characters, Form, IsWithin, Start, block_state, IsPlacedAt, Standing, StandsInFront}
+use Rattle.nf_filter.proofs.Common.{◌≡◌, ℕ, ◌+◌, ◌≤◌, List, length, IsUtf8, characters, Form, IsWithin, Start, block_state, IsPlacedAt, Standing, StandsInFront}
 use Rattle.nf_filter.proofs.counted.Counted.take_text.Given as goal
 
 abbrev pub invariant-loop-rest : goal.invariant-loop-rest
