@@ -1,5 +1,5 @@
 -- What was relayed where a connection ended.
-use Rattle.std.proofs.Common.{◌≡◌, ℕ, ◌+◌, ◌<◌, ◌≤◌, ◌↔◌, Bool, true, false, List, [], ◌++◌, length, Option, None, Result, Ok, Err, refl, sym, subst, IsTrue, IsFalse, OnOk}
+use Rattle.std.proofs.Common.{◌≡◌, ℕ, ◌+◌, ◌<◌, ◌≤◌, ◌↔◌, Bool, true, false, List, [], ◌++◌, length, Option, Result, Ok, Err, refl, sym, IsTrue, IsFalse, OnOk}
 use Rattle.std.specs.Io.KnownBytes.{Consumes, IsAtEnd}
 use Rattle.nf_forms.specs.Properties.{Properties}
 use Rattle.nf_forms.specs.declared.form.Form.{Form}
@@ -10,7 +10,6 @@ use Rattle.nf_filter.specs.declared.tally.Tally.{Tally}
 use Rattle.nf_filter.specs.Devices.{SinkState, SourceState}
 use Rattle.nf_filter.specs.Writes.{Puts}
 use Rattle.nf_filter.specs.Settled.{settled_utf8}
-use Rattle.nf_filter.specs.Faults.{fault_in}
 use Rattle.nf_filter.specs.Feeds.{Feeds}
 use Rattle.nf_filter.specs.Filter.{base_of, offset_of, is_spent, StandsAfter}
 use Rattle.nf_filter.specs.Finishes.{Finishes}
