@@ -1,9 +1,7 @@
 pub mod Common
 pub mod WritesLemmas
 pub mod PolicyLemmas
-pub mod PassedLemmas
 pub mod TakingLemmas
-pub mod SteppingLemmas
 pub mod AllowingLemmas
 pub mod PieceLemmas
 pub mod NextLemmas

@@ -1,6 +1,6 @@
 use Rattle.nf_filter.proofs.Common.{rules, sym, ap, ◌∙◌, eqb-true, length, chars_past_char}
 use Rattle.std.proofs.lemmas.List.Sums.{take_while-cons}
-use Rattle.nf_filter.proofs.PassedLemmas.{none_after, piece_after, char_after, stops_at_end}
+use Rattle.nf_filter.proofs.TakingLemmas.{none_after, piece_after, char_after, stops_at_end}
 use Rattle.nf_filter.proofs.taking.past_assigned.Goals as goal
 
 pub loop-rest-init : goal.loop-rest-init

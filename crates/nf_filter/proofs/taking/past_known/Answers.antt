@@ -1,5 +1,5 @@
 use Rattle.nf_filter.proofs.Common.{take, take-append-drop, IsUtf8-take}
-use Rattle.nf_filter.proofs.PassedLemmas.{none_after}
+use Rattle.nf_filter.proofs.TakingLemmas.{none_after}
 use Rattle.nf_filter.proofs.taking.past_known.Goals as goal
 
 pub returns-then-few-gt0-clause-after : goal.returns-then-few-gt0-clause-after

@@ -1,5 +1,5 @@
 use Rattle.nf_filter.proofs.Common.{refl, append-nil, take-append-drop, rules, chars-nil, chars-append, IsUtf8, IsCharBoundary-at_seam}
-use Rattle.nf_filter.proofs.PassedLemmas.{front_len, front_at, front_is}
+use Rattle.nf_filter.proofs.TakingLemmas.{len_front, front_at, front_is}
 use Rattle.nf_filter.proofs.taking.split_allowed.Goals as goal
 
 pub returns-then-not-assigned-clause-whole : goal.returns-then-not-assigned-clause-whole
@@ -8,7 +8,7 @@ returns-then-not-assigned-clause-whole g c = simp (chars-nil, append-nil)
 pub split_at-requires : goal.split_at-requires
 split_at-requires g c =
     let here = c.past_assigned-rest.ensures.after in
-    rw (front_len here) (IsCharBoundary-at_seam _ here.front _ here.split here.rest_utf8)
+    rw (len_front here) (IsCharBoundary-at_seam _ here.front _ here.split here.rest_utf8)
 
 pub returns-clause-front : goal.returns-clause-front
 returns-clause-front g c =

@@ -2,7 +2,7 @@ use Rattle.nf_filter.proofs.Common.{â„•, Result, Fault, Err, Row, WriteFault, â—
 use Rattle.nf_filter.proofs.WritesLemmas.{WritesTo-written}
 use Rattle.nf_filter.proofs.PolicyLemmas.{first_fault-stop}
 use Rattle.nf_filter.proofs.TakingLemmas.{front_len, front-joined}
-use Rattle.nf_filter.proofs.SteppingLemmas.{apart, given_to, given_and, stands-failed, stands-moved, Standing-moved}
+use Rattle.nf_filter.proofs.AllowingLemmas.{apart, given_to, given_and, stands-failed, stands-moved, Standing-moved}
 use Rattle.nf_filter.proofs.counted.Counted.step.Goals as goal
 
 pub returns-in-Err-clause-steps : goal.returns-in-Err-clause-steps

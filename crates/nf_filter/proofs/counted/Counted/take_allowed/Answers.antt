@@ -1,8 +1,7 @@
 use Rattle.nf_filter.proofs.Common.{ℕ, ◌≡◌, ◌<◌, ◌∷◌, ◌++◌, length, sym, ap, ◌∙◌, arith, rules, length-append, chars, encodes-chars}
 use Rattle.std.proofs.Math.Nat.{zero-add}
 use Rattle.nf_filter.proofs.TakingLemmas.{front-whole}
-use Rattle.nf_filter.proofs.SteppingLemmas.{first-left}
-use Rattle.nf_filter.proofs.AllowingLemmas.{allowed-part, TakesAllowed-all, TakesAllowed-refused, TakesAllowed-unassigned}
+use Rattle.nf_filter.proofs.AllowingLemmas.{first-left, allowed-part, TakesAllowed-all, TakesAllowed-refused, TakesAllowed-unassigned}
 use Rattle.nf_filter.proofs.counted.Counted.take_allowed.Goals as goal
 
 pub returns-in-Err-clause-takes : goal.returns-in-Err-clause-takes
