@@ -5,7 +5,7 @@ ghost use Rattle.nf_utf8.specs.Tells.{Tells, subpart_after};
 ghost use Rattle.nf_utf8.specs.Front.{IsFront};
 
 use crate::front::Front;
-use crate::sequence;
+use crate::sequence::{self, is_continuation, is_second};
 use crate::step::Step;
 
 /// The bytes of a begun character.
@@ -25,9 +25,11 @@ impl Carry {
     {
         match *bytes {
             [] => Some(Carry::Empty),
-            [a] if sequence::is_lead(a) => Some(Carry::One(a)),
-            [a, b] if sequence::is_lead_of_three(a, b) => Some(Carry::Two(a, b)),
-            [a, b, c] if sequence::is_lead_of_four(a, b, c) => Some(Carry::Three(a, b, c)),
+            [a @ 0xC2..=0xF4] => Some(Carry::One(a)),
+            [a @ 0xE0..=0xF4, b] if is_second(a, b) => Some(Carry::Two(a, b)),
+            [a @ 0xF0..=0xF4, b, c] if is_second(a, b) && is_continuation(c) => {
+                Some(Carry::Three(a, b, c))
+            }
             _ => None,
         }
     }

@@ -55,10 +55,8 @@ impl Decoder {
         ensures some { IsSome result ↔ IsSubpart bytes.now }
         ensures holds { IfSome result (λ decoder. decoder ≡ bytes.now) }
     {
-        match Carry::holding(bytes) {
-            Some(carry) => Some(Decoder { carry }),
-            None => None,
-        }
+        let carry = Carry::holding(bytes)?;
+        Some(Decoder { carry })
     }
 
     /// The bytes that it holds, at the front of the array, and how many they are.

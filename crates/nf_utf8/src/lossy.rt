@@ -129,7 +129,7 @@ fn put_stretch(bytes: &[u8], room: &mut [u8; ROOM], at: usize) -> Option<Stretch
     if bytes.len() < NEAR + 8 {
         return put_short(bytes, room, at);
     }
-    let ascii = near_ascii(bytes);
+    let ascii = ascii_prefix(&bytes[..NEAR]);
     if ascii == NEAR {
         return None;
     }
@@ -172,16 +172,6 @@ fn ascii_stretch(bytes: &[u8], ascii: usize) -> Option<Stretch>
         Front::Char { len, .. } if ascii + len <= NEAR => stretch_after(bytes, ascii + len),
         _ => None,
     }
-}
-
-/// How many of the bytes that are near are ASCII.
-#[inline(always)]
-fn near_ascii(bytes: &[u8]) -> usize
-    requires { 64 ≤ length bytes.now }
-    ensures few { result ≤ 64 }
-    ensures utf8 { IsUtf8 (take result bytes.now) }
-{
-    ascii_prefix(&bytes[..NEAR])
 }
 
 /// The stretch of so many bytes of text, where what stands after them is ill-formed.

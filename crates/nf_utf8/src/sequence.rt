@@ -18,27 +18,6 @@ pub fn first(byte: u8) -> Step
     }
 }
 
-/// Whether `a` begins a character of more bytes.
-pub fn is_lead(a: u8) -> bool
-    ensures { IsTrue result ↔ IsSubpart (a ∷ []) }
-{
-    matches!(a, 0xC2..=0xF4)
-}
-
-/// Whether these begin one of more bytes.
-pub fn is_lead_of_three(a: u8, b: u8) -> bool
-    ensures { IsTrue result ↔ IsSubpart (a ∷ b ∷ []) }
-{
-    matches!(a, 0xE0..=0xF4) && is_second(a, b)
-}
-
-/// The same of three.
-pub fn is_lead_of_four(a: u8, b: u8, c: u8) -> bool
-    ensures { IsTrue result ↔ IsSubpart (a ∷ b ∷ c ∷ []) }
-{
-    matches!(a, 0xF0..=0xF4) && is_second(a, b) && is_continuation(c)
-}
-
 #[inline(always)]
 pub fn second(a: u8, byte: u8) -> Step
     requires { IsSubpart (a ∷ []) }
@@ -80,7 +59,7 @@ pub fn fourth(a: u8, b: u8, c: u8, byte: u8) -> Step
 }
 
 #[inline(always)]
-fn is_second(first: u8, byte: u8) -> bool
+pub fn is_second(first: u8, byte: u8) -> bool
     ensures { IsTrue result ↔ IsSecond first byte }
 {
     is_continuation(byte)

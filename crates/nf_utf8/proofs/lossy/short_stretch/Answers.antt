@@ -10,8 +10,3 @@ returns-clause-is c =
     let error = c.in-Err.ensures in
     let told = rw error.valid_len at (sym error.fault ∙ sym c.error_len.ensures ∙ c.in_ok-part.was) in
     rw (c.valid_up_to-text.ensures ∙ error.valid_len) (stretch_is c.args.bytes.now c.min.result c.in_ok-part.part (is_told near c.in_ok-part.part told))
-
-pub returns-clause-few : goal.returns-clause-few
-returns-clause-few c =
-    let near : List ℕ = take c.min.result c.args.bytes.now in
-    omega (arith, c.valid_up_to-text.ensures, c.in-Err.ensures.valid_len, (text_len-longest near).within, length-take c.min.result c.args.bytes.now, c.min.ensures)

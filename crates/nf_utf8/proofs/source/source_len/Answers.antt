@@ -2,9 +2,6 @@ use Rattle.nf_utf8.proofs.Common.{◌≡◌, ◌-◌, refl, arith, encode_utf8, 
 use Rattle.nf_utf8.proofs.SourceLemmas.{source-next, source-none}
 use Rattle.nf_utf8.proofs.source.source_len.Goals as goal
 
-pub returns-in_default-clause-value : goal.returns-in_default-clause-value
-returns-in_default-clause-value c = omega (arith, rw (rw take_rest at (c.in_default.ensures.none refl)) at c.loop-left.invariant.passed)
-
 pub loop-left-preserved : goal.loop-left-preserved
 loop-left-preserved c =
     let first = rw take_rest at c.in-Some.ensures.some in

@@ -10,11 +10,6 @@ slice_bounds-from_utf8_unchecked-end c = sym (length-take-le c.valid_len-len.res
 pub from_utf8_unchecked-text-requires : goal.from_utf8_unchecked-text-requires
 from_utf8_unchecked-text-requires c = rw c.valid_len-len.ensures (text_len-longest c.args.piece.now).holds
 
-pub returns-then-replaced-gt0-clause-reads : goal.returns-then-replaced-gt0-clause-reads
-returns-then-replaced-gt0-clause-reads c =
-    let nothing : c.args.self.now ≡ [] = sym c.self.view_is ∙ c.if-is_empty.ensures.0 refl in
-    rw (nothing, c.if-replace.true) (reads-replaced c.args.piece.now _ c.lossy_front-replaced.result (rw c.lossy_text-text.ensures c.lossy_front-replaced.ensures.left) c.lossy_front-replaced.ensures.within (omega arith))
-
 pub returns-then-len-gt0-clause-reads : goal.returns-then-len-gt0-clause-reads
 returns-then-len-gt0-clause-reads c =
     let nothing : c.args.self.now ≡ [] = sym c.self.view_is ∙ c.if-is_empty.ensures.0 refl in
