@@ -8,6 +8,7 @@ use Rattle.std.proofs.str.Laws.{order, two, three, four}
 use Rattle.std.proofs.lemmas.Bool.{and_parts}
 use Rattle.std.proofs.lemmas.Bool.Decides.{nat_tests}
 use Rattle.std.proofs.lemmas.List.Sums.{sum_by-append}
+use Rattle.std.proofs.lemmas.Str.{length-encode, len_utf8_bounds}
 use Rattle.ucd_table.specs.Trie.{block_value}
 use Rattle.ucd_table.proofs.TrieCheck.{all_below, all_below-at}
 use Rattle.nf_facts.specs.Within.{or_else}
@@ -113,16 +114,7 @@ module _ (sound : (c : ℕ) → is_sound ucd c ≡ true) where
 
   -- as many non-starters as bytes at most
   few : (c : ℕ) → c < 1114112 → count_by (is_nonstarter ucd) (ucd.compat c) ≤ length (encode_utf8 c)
-  few c small = at (order c 128) (order c 2048) (order c 65536)
-    where
-      count : told c % 4 ≡ count_by (is_nonstarter ucd) (ucd.compat c)
-      count = (valued c small).row.nonstarters
-
-      at : (c < 128) ⊎ (128 ≤ c) → (c < 2048) ⊎ (2048 ≤ c) → (c < 65536) ⊎ (65536 ≤ c) → count_by (is_nonstarter ucd) (ucd.compat c) ≤ length (encode_utf8 c)
-      at (inl ascii) _ _ = rw (← count, told-ascii c ascii) (omega arith)
-      at (inr more_than) (inl less) _ = rw (two c more_than less, ← count) (grind (arith, nat_tests, told-two c less))
-      at (inr _) (inr more_than) (inl less) = rw (three c more_than less, ← count) (omega arith)
-      at (inr _) (inr _) (inr more_than) = rw (four c more_than, ← count) (omega arith)
+  few c small = rw (length-encode c) (grind (arith, nat_tests, len_utf8_bounds c, (valued c small).row.nonstarters, told-two c, told-ascii c))
 
   pub few_in : (cs : List ℕ) → all_scalars cs ≡ true → count_by (is_nonstarter ucd) (decomposed Nfkd ucd cs) ≤ length (encode_utf8_all cs)
   few_in [] scalars = omega arith

@@ -5,14 +5,6 @@ use Rattle.nf_counts.proofs.safe.safe_front.Goals as goal
 pub split_at-requires : goal.split_at-requires
 split_at-requires c = let here = rw c.as_bytes.ensures.value at c.in_ok-first_start.ensures in boundary c.args.text.now c.in_ok-first_start.field-0 here.0 here.1
 
-pub last_start-requires-clause-some : goal.last_start-requires-clause-some
-last_start-requires-clause-some c =
-    rw c.split_at.ensures.back (from_start c.args.text.now c.in_ok-first_start.field-0 c.utf8.text (rw c.as_bytes.ensures.value at c.in_ok-first_start.ensures)).some
-
-pub last_start-requires-clause-begins : goal.last_start-requires-clause-begins
-last_start-requires-clause-begins c =
-    rw c.split_at.ensures.back (from_start c.args.text.now c.in_ok-first_start.field-0 c.utf8.text (rw c.as_bytes.ensures.value at c.in_ok-first_start.ensures)).begins
-
 pub split_at-requires-2 : goal.split_at-requires-2
 split_at-requires-2 c = let here = c.last_start.ensures in boundary c.split_at.result.1.now c.last_start.result here.within here.starts
 
