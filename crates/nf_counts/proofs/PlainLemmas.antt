@@ -36,10 +36,7 @@ after_plain n = cond (nat_lt n 8) (n % 4) n
 value-append : (p : Properties) (w v : List ℕ) (n : ℕ) → HasValue p w 0 → HasValue p v n → HasValue p (w ++ v) (after_plain n)
 value-append p w v n first next =
     let marks = sum_by-append (λ d. cond (is_nonstarter p d) 1 0) w v in
-    ⊎_elim
-    (λ few. grind (arith, nat_tests, has_starter-append p w v, lead-append p w v, trail-append p w v, longest-append p w v, lead-marks p v, trail-marks p v, marks))
-    (λ more. grind (arith, nat_tests, has_starter-append p w v, lead-append p w v, trail-append p w v, longest-append p w v, lead-marks p v, trail-marks p v, marks))
-    (order n 8)
+    grind (arith, nat_tests, order n 8, has_starter-append p w v, lead-append p w v, trail-append p w v, longest-append p w v, lead-marks p v, trail-marks p v, marks)
 
 module _ (p : Properties) where
   abbrev is_plain : ℕ → Type 0

@@ -54,21 +54,6 @@ starts-lead b next is high =
 pub boundary : (text : List ℕ) (at : ℕ) → at < length text → starts_at text at ≡ true → IsCharBoundary text at
 boundary text at within is = (omega (arith, within), λ inside high. starts-lead _ _ is high)
 
--- what stands from a starter on
-pub record IsFrom (others : List ℕ) : Type 0 where
-  pub utf8 : IsUtf8 others
-  pub some : 0 < length others
-  pub begins : starts_at others 0 ≡ true
-
-pub from_start : (text : List ℕ) (at : ℕ) → IsUtf8 text → (at < length text) × (starts_at text at ≡ true) → IsFrom (drop at text)
-from_start text at u here =
-    let zero : at + 0 ≡ at = omega arith in
-    record {
-      utf8 = IsUtf8-drop text at u (boundary text at here.0 here.1);
-      some = omega (arith, length-drop at text, here.0);
-      begins = simp (get_or-drop, zero) here.1;
-    }
-
 trail-le-longest : (w : List ℕ) → trail ucd w ≤ longest ucd w
 trail-le-longest w = let is = rw append-nil at (longest-append ucd w []) in omega arith
 
