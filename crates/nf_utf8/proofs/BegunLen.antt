@@ -1,10 +1,10 @@
 -- `begun_len`, the length of the longest front that begins a text, and `ending_of`, by the three lengths that it compares.
-use Rattle.nf_utf8.proofs.Common.{◌≡◌, ℕ, suc, ◌+◌, ◌<◌, ◌≤◌, ⊎_elim, true, false, cond, nat_lt, List, [], ◌∷◌, ◌++◌, length, take, drop, Option, Some, None, unwrap_or, IsUtf8, arith, take-append-drop, length-drop, take-take, take_all, IsInRange, is_in_range, StartsWithNoChar, utf8_error_len, error_len_after_one, error_len_after_two, error_len_of_some, order, utf8_error_len-nil, utf8_error_len_some, no_text, le-ltb, cond_both, nat_tests, IsUtf8-nil, BeginsText, IsSecond, IsContinuation}
+use Rattle.nf_utf8.proofs.Common.{◌≡◌, ℕ, suc, ◌+◌, ◌<◌, ◌≤◌, ⊎_elim, true, false, cond, nat_lt, List, [], ◌∷◌, ◌++◌, length, take, drop, Option, Some, None, unwrap_or, IsUtf8, arith, take-append-drop, length-drop, take-take, take_all, IsInRange, is_in_range, StartsWithNoChar, utf8_error_len, error_len_after_one, error_len_after_two, error_len_of_some, order, utf8_error_len-nil, utf8_error_len_some, no_text, le-ltb, cond_both, nat_tests, IsUtf8-nil, of_one, BeginsText, IsSecond, IsContinuation}
 use Rattle.nf_utf8.proofs.Common.{text_len, subpart_len, begun_len, ◌==◌, eqb-true, Ending, Whole, Bad, Cut, ending_of}
 use Rattle.nf_utf8.proofs.Fronts.{IsLongestFront, longest_same, longest_after}
 use Rattle.nf_utf8.proofs.Texts.{BeginsText-append, BeginsText-after, BeginsText-front, BeginsText-IsUtf8}
 use Rattle.nf_utf8.proofs.TextLen.{text_len-longest, length-front, text_len-rest, no_char-text_len}
-use Rattle.nf_utf8.proofs.Sequences.{IsUtf8-one, IsUtf8-two, IsUtf8-three, IsUtf8-four, begins_one, begins_two, begins_three, no_first, no_second, no_third, no_fourth}
+use Rattle.nf_utf8.proofs.Sequences.{IsUtf8-two, IsUtf8-three, IsUtf8-four, begins_one, begins_two, begins_three, no_first, no_second, no_third, no_fourth}
 
 abbrev pub BeginsFor : List ℕ → ℕ → Type 0
 BeginsFor bytes n = IsLongestFront BeginsText bytes n
@@ -76,7 +76,7 @@ subpart_len-counted (a ∷ rest) none =
     (λ t. rw t (after_one a rest (in_range 0xC2 0xF4 a t) none))
     (λ t. record {
       begins = begins_until (a ∷ rest) 0 (omega arith) (BeginsText-IsUtf8 [] IsUtf8-nil)
-          (⊎_elim (λ low. absurd (no_text (a ∷ []) rest none (IsUtf8-one a low) (omega arith))) (λ high. no_first a high (out_of_range 0xC2 0xF4 a t)) (order a 0x80));
+          (⊎_elim (λ low. absurd (no_text (a ∷ []) rest none (of_one (a ∷ []) 0 (omega arith) low) (omega arith))) (λ high. no_first a high (out_of_range 0xC2 0xF4 a t)) (order a 0x80));
       few = omega arith;
       ill_formed = λ _ _. omega arith;
     }))

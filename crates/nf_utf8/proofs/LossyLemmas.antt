@@ -10,12 +10,9 @@ use Rattle.nf_utf8.proofs.ReplacedLemmas.{chars-own, by_subparts, decoded_of-all
 pub text_len-front : (bytes : List ℕ) (n : ℕ) → text_len (take n bytes) + 3 < length (take n bytes) → text_len bytes ≡ text_len (take n bytes)
 text_len-front bytes n far = rw take-append-drop at (text_same (take n bytes) (omega (arith, far, begun_few (take n bytes))) (drop n bytes))
 
--- std's count of them is this crate's, where any do; where none does, one byte is invalid
+-- std's count of them is this crate's, where any do
 invalid_begun : (rest : List ℕ) → 0 < subpart_len rest → utf8_invalid_len rest ≡ subpart_len rest
 invalid_begun rest some = grind (arith, nat_tests)
-
-invalid_one : (rest : List ℕ) → 0 < length rest → subpart_len rest ≡ 0 → utf8_invalid_len rest ≡ 1
-invalid_one rest some none = grind (arith, nat_tests, utf8_error_len_some rest some, utf8_invalid_len_pos rest some)
 
 -- the bytes after the text
 abbrev rest_at : List ℕ → List ℕ
@@ -23,7 +20,7 @@ rest_at bytes = drop (text_len bytes) bytes
 
 ill_formed_invalid : (bytes : List ℕ) {at start : ℕ} → ending_of bytes ≡ Bad at start → text_len bytes + utf8_invalid_len (rest_at bytes) ≡ subpart_end at start
 ill_formed_invalid bytes {at} {start} e =
-    grind (arith, nat_tests, ill_formed bytes at start e, invalid_one (rest_at bytes), invalid_begun (rest_at bytes), length-drop (text_len bytes) bytes)
+    grind (arith, nat_tests, ill_formed bytes at start e, utf8_error_len_some (rest_at bytes), utf8_invalid_len_pos (rest_at bytes), invalid_begun (rest_at bytes), length-drop (text_len bytes) bytes)
 
 -- std tells how many bytes are invalid: those of the part that a byte breaks off
 pub record IsTold (bytes : List ℕ) (n : ℕ) : Type 0 where

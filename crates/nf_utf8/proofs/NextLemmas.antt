@@ -19,10 +19,6 @@ reads-text r piece text len u is within some =
       alone = inl refl;
     }
 
--- the front of the bytes, where many ill-formed parts are replaced
-pub reads-replaced : (piece text : List ℕ) (len : ℕ) → IsLeft true piece (chars text) len (drop len piece) → len ≤ length piece → 0 < len → ReadsNext true [] piece text len []
-reads-replaced piece text len left within some = record { n = len; left = left; within = within; less = λ _. omega arith; alone = inl refl }
-
 -- the bytes end inside a character
 pub reads-begun : (r : Bool) (held piece : List ℕ) → ReadsNext r held piece [] (length piece) (held ++ piece)
 reads-begun r held piece = record {

@@ -6,13 +6,6 @@ use Rattle.nf_utf8.proofs.ReadingLemmas.{text_of-encodes, text_of-IsText, text_o
 
 -- ---- what is read is so
 
-pub text_of-longest : (bytes : List ℕ) → IsLongestText bytes (text_of bytes)
-text_of-longest bytes = record {
-  scalars = text_of-IsText bytes;
-  spelled = (rest_of bytes, text_of-split bytes);
-  longest = λ other rest s e. (text_of rest, ap text_of e ∙ text_of-encodes other rest s);
-}
-
 pub ending_of-is : (bytes : List ℕ) → EndsAs bytes (text_of bytes) (ending_of bytes)
 ending_of-is bytes = by (ending_of bytes) (ending_of-says bytes)
   where
@@ -26,7 +19,14 @@ ending_of-is bytes = by (ending_of bytes) (ending_of-says bytes)
         )
 
 pub reads : (bytes : List ℕ) → Reads bytes (text_of bytes) (ending_of bytes)
-reads bytes = record { front = text_of-longest bytes; end = ending_of-is bytes }
+reads bytes = record {
+  front = record {
+    scalars = text_of-IsText bytes;
+    spelled = (rest_of bytes, text_of-split bytes);
+    longest = λ other rest s e. (text_of rest, ap text_of e ∙ text_of-encodes other rest s);
+  };
+  end = ending_of-is bytes;
+}
 
 -- ---- and nothing else
 
@@ -47,5 +47,5 @@ only_ending bytes (Bad at start) e =
 
 pub reads_only : (bytes text : List ℕ) (ending : Ending) → Reads bytes text ending → (text ≡ text_of bytes) × (ending ≡ ending_of bytes)
 reads_only bytes text ending r =
-    let same = longest_text_same r.front (text_of-longest bytes) in
+    let same = longest_text_same r.front (reads bytes).front in
     (same, only_ending bytes ending (rw same at r.end))

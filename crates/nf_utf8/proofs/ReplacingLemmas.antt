@@ -30,14 +30,13 @@ stretch_is bytes near n told =
 -- ---- one more stretch
 
 -- what it makes of them
-pub record IsReplacedWith (bytes new : List ℕ) (len next : ℕ) : Type 0 where
+pub record IsReplacedWith (bytes new : List ℕ) (next : ℕ) : Type 0 where
   pub text : IsUtf8 new
   pub left : IsLeft true bytes (chars new) next (drop next bytes)
-  pub more : len < next
   pub within : next ≤ length bytes
 
 pub one_stretch : (bytes lossy : List ℕ) (len : ℕ) (stretch : Stretch) → IsUtf8 lossy → IsLeft true bytes (chars lossy) len (drop len bytes)
-    → IsStretch (drop len bytes) stretch → IsReplacedWith bytes (lossy ++ take stretch.text (drop len bytes) ++ replacement_bytes) len (len + stretch.len)
+    → IsStretch (drop len bytes) stretch → IsReplacedWith bytes (lossy ++ take stretch.text (drop len bytes) ++ replacement_bytes) (len + stretch.len)
 one_stretch bytes lossy len stretch before is next =
     let text : List ℕ = take stretch.text (drop len bytes) in
     let front = IsUtf8-append lossy text before next.utf8 in
@@ -47,6 +46,5 @@ one_stretch bytes lossy len stretch before is next =
     record {
       text = IsUtf8-append (lossy ++ text) replacement_bytes front replacement-utf8;
       left = rw all both;
-      more = omega (arith, next.part);
       within = omega (arith, both.len);
     }

@@ -5,9 +5,6 @@ use Rattle.nf_utf8.proofs.Texts.{BeginsText-front}
 
 -- ---- the bytes that spell a character
 
-pub IsUtf8-one : (a : ℕ) → a < 0x80 → IsUtf8 (a ∷ [])
-IsUtf8-one a h = of_one (a ∷ []) 0 (omega arith) h
-
 pub IsUtf8-two : (a b : ℕ) → IsInRange 0xC2 0xDF a → IsContinuation b → IsUtf8 (a ∷ b ∷ [])
 IsUtf8-two a b first second = grind (arith, of_two (a ∷ b ∷ []) 0)
 

@@ -90,10 +90,6 @@ module _ {subpart bytes : List ℕ} (byte : ℕ) (s : StandsAfter subpart bytes)
       let none = rw (text_of-none (subpart ++ byte ∷ []) b.0, append-nil) at text_more in
       grind (arith, none, ending_on bytes (byte ∷ []) s.rest, b.1, held_len s)
 
--- a byte of ASCII where no character is begun
-pub ascii_tells : (byte c : ℕ) → byte < 0x80 → c ≡ byte → Tells [] byte (Char c)
-ascii_tells byte c low same = (grind (arith, nat_tests), grind (arith, one))
-
 -- ---- one answer alone fits
 
 pub answers_same : (bytes : List ℕ) (byte : ℕ) (a b : Step) → Answers bytes byte a → Answers bytes byte b → a ≡ b

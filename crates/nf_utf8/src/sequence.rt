@@ -80,6 +80,7 @@ pub fn is_continuation(byte: u8) -> bool
 }
 
 #[inline(always)]
+#[tactic(auto, using(crate::proofs::Common::nat_tests, crate::proofs::Common::two))]
 fn char_of_two(a: u8, b: u8) -> char
     requires first { IsInRange 0xC2 0xDF a }
     requires second { IsContinuation b }
@@ -90,6 +91,7 @@ fn char_of_two(a: u8, b: u8) -> char
 }
 
 #[inline(always)]
+#[tactic(auto, using(crate::proofs::Common::nat_tests, crate::proofs::Common::three))]
 fn char_of_three(a: u8, b: u8, c: u8) -> char
     requires first { IsInRange 0xE0 0xEF a }
     requires second { IsSecond a b }
@@ -103,6 +105,7 @@ fn char_of_three(a: u8, b: u8, c: u8) -> char
 }
 
 #[inline(always)]
+#[tactic(auto, using(crate::proofs::Common::nat_tests, crate::proofs::Common::four))]
 fn char_of_four(a: u8, b: u8, c: u8, d: u8) -> char
     requires first { IsInRange 0xF0 0xF4 a }
     requires second { IsSecond a b }

@@ -1,7 +1,7 @@
 use Rattle.nf_utf8.proofs.Common.{◌≡◌, [], refl, sym, ◌∙◌, arith, length-take-le}
 use Rattle.nf_utf8.proofs.TextLen.{text_len-longest}
 use Rattle.nf_utf8.proofs.StandingLemmas.{text_of-none}
-use Rattle.nf_utf8.proofs.NextLemmas.{reads-text, reads-replaced, reads-begun, reads-one, bad, reads-bad}
+use Rattle.nf_utf8.proofs.NextLemmas.{reads-text, reads-begun, reads-one, bad, reads-bad}
 use Rattle.nf_utf8.proofs.decoder.Decoder.next_text.Goals as goal
 
 pub slice_bounds-from_utf8_unchecked-end : goal.slice_bounds-from_utf8_unchecked-end

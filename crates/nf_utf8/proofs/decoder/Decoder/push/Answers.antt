@@ -1,13 +1,13 @@
-use Rattle.nf_utf8.proofs.Common.{◌≡◌, [], refl, sym, ◌∙◌, Char}
+use Rattle.nf_utf8.proofs.Common.{◌≡◌, [], refl, sym, ◌∙◌, arith, nat_tests, one, Char}
 use Rattle.nf_utf8.specs.Tells.{Tells}
-use Rattle.nf_utf8.proofs.StandingLemmas.{ascii_tells, tells-answers, tells-stands, answers_same}
+use Rattle.nf_utf8.proofs.StandingLemmas.{tells-answers, tells-stands, answers_same}
 use Rattle.nf_utf8.proofs.decoder.Decoder.push.Goals as goal
 
 nothing : (c : goal.After-from) → c.args.self.now ≡ []
 nothing c = sym c.self.view_is ∙ c.if-is_empty.ensures.0 refl
 
 told : (c : goal.After-from) → Tells [] c.args.byte (Char c.from.result)
-told c = ascii_tells c.args.byte c.from.result c.if-byte-lt128.true c.from.ensures
+told c = (grind (arith, nat_tests, c.from.ensures), grind (arith, one, c.from.ensures))
 
 pub returns-then-byte-lt128-clause-answer : goal.returns-then-byte-lt128-clause-answer
 returns-then-byte-lt128-clause-answer c bytes s = tells-answers c.args.byte (rw (nothing c) at s) tt (Char c.from.result) (told c)
