@@ -73,17 +73,10 @@ module _ (sound : (c : ℕ) → is_sound ucd c ≡ true) where
   }
 
   -- so is a character that the two families do not find, or the one of kana
-  tells_looks : Tells _ _ _ known (finds LOOKS)
-  unfolding all_below block_value known
-  tells_looks = record { of_two = refl; of_three = refl; of_four = refl }
-
-  tells_kana : Tells _ _ _ known (is_in KANA)
-  unfolding all_below block_value known
-  tells_kana = record { of_two = refl; of_three = refl; of_four = refl }
-
   tells : (b : Bool) → Tells _ _ _ known (cond b (finds LOOKS) (is_in KANA))
-  tells true = tells_looks
-  tells false = tells_kana
+  unfolding all_below block_value known
+  tells true = record { of_two = refl; of_three = refl; of_four = refl }
+  tells false = record { of_two = refl; of_three = refl; of_four = refl }
 
   -- characters of which none is looked up are a piece of the value 0
   pub plain_piece : (text : List ℕ) (len : ℕ) → IsUtf8 text → IsCharBoundary text len → 0 < len → AreTold text 0 len → IsPiece ucd text record { len = len; value = 0 }

@@ -28,12 +28,9 @@ use Rattle.nf_counts.proofs.PieceLemmas.{rest_is}
 use Rattle.nf_counts.proofs.StartLemmas.{begins, few_in, longest-le-count}
 
 -- ASCII starts, and no later byte of a character does
-ascii_starts : all_below lead_starts 128 ≡ true
-unfolding all_below
-ascii_starts = refl
-
 pub starts-ascii : (b next : ℕ) → b < 128 → starts b next ≡ true
-starts-ascii b next small = grind (arith, all_below-at lead_starts 128 b ascii_starts small)
+unfolding all_below
+starts-ascii b next small = grind (arith, all_below-at lead_starts 128 b refl small)
 
 later_do_not : all_below (λ i. not (lead_starts (128 + i)) && (byte_sets PAIRS.first_high PAIRS.first_low (128 + i) == 0)) 64 ≡ true
 unfolding all_below

@@ -10,18 +10,15 @@ bounds-bytes-1 c = rw c.as_bytes-bytes.ensures.value (has_second c.args.text.now
 pub bounds-bytes-3 : goal.bounds-bytes-3
 bounds-bytes-3 c = let here = (first_of c.args.text.now c.utf8.text c.requires.high).four (rw c.as_bytes-bytes.ensures.value at c.if-lead-ge240.true) in rw c.as_bytes-bytes.ensures.value (omega (arith, (boundary _ _ _ here.begins).0))
 
-pub returns-then-lead-clause-piece : goal.returns-then-lead-clause-piece
-returns-then-lead-clause-piece c =
+pub returns-then-lead : goal.returns-then-lead
+returns-then-lead c =
     let text = c.args.text.now in
     let lead : slice_index text 0 ≡ 0xCC = rw c.as_bytes-bytes.ensures.value at c.if-lead.true in
     let here = (first_of text c.utf8.text c.requires.high).two (omega (arith, lead)) in
-    piece_of here (omega arith) (omega arith) (valued-mark (two_spell text) (c.every_character_is_sound.ensures.character _) (omega (arith, lead)))
-
-pub returns-then-lead-clause-one : goal.returns-then-lead-clause-one
-returns-then-lead-clause-one c =
-    let text = c.args.text.now in
-    let lead : slice_index text 0 ≡ 0xCC = rw c.as_bytes-bytes.ensures.value at c.if-lead.true in
-    ((first_of text c.utf8.text c.requires.high).two (omega (arith, lead))).one
+    record {
+      piece = piece_of here (omega arith) (omega arith) (valued-mark (two_spell text) (c.every_character_is_sound.ensures.character _) (omega (arith, lead)));
+      one = here.one;
+    }
 
 pub value-value-requires : goal.value-value-requires
 value-value-requires c =
@@ -29,15 +26,15 @@ value-value-requires c =
     let here = (first_of c.args.text.now c.utf8.text c.requires.high).four (rw bytes at c.if-lead-ge240.true) in
     rw (four_is c.args.text.now c.from.result c.from-2.result c.from-3.result c.from-then-lead-ge240.result (grind (arith, bytes)) (grind (arith, bytes)) (grind (arith, c.requires.third, (boundary _ _ _ here.begins).0)) (grind (arith, bytes))) here.fits
 
-pub returns-then-lead-ge240-clause-piece : goal.returns-then-lead-ge240-clause-piece
-returns-then-lead-ge240-clause-piece c =
+pub returns-then-lead-ge240 : goal.returns-then-lead-ge240
+returns-then-lead-ge240 c =
     let bytes = c.as_bytes-bytes.ensures.value in
     let here = (first_of c.args.text.now c.utf8.text c.requires.high).four (rw bytes at c.if-lead-ge240.true) in
-    piece_of here (omega arith) c.value-value.ensures.within
-    (rw (four_is c.args.text.now c.from.result c.from-2.result c.from-3.result c.from-then-lead-ge240.result (grind (arith, bytes)) (grind (arith, bytes)) (grind (arith, c.requires.third, (boundary _ _ _ here.begins).0)) (grind (arith, bytes))) at c.value-value.ensures.valued)
-
-pub returns-then-lead-ge240-clause-one : goal.returns-then-lead-ge240-clause-one
-returns-then-lead-ge240-clause-one c = ((first_of c.args.text.now c.utf8.text c.requires.high).four (rw c.as_bytes-bytes.ensures.value at c.if-lead-ge240.true)).one
+    record {
+      piece = piece_of here (omega arith) c.value-value.ensures.within
+          (rw (four_is c.args.text.now c.from.result c.from-2.result c.from-3.result c.from-then-lead-ge240.result (grind (arith, bytes)) (grind (arith, bytes)) (grind (arith, c.requires.third, (boundary _ _ _ here.begins).0)) (grind (arith, bytes))) at c.value-value.ensures.valued);
+      one = here.one;
+    }
 
 character : (c : After-value-value-2) → HasCode c.args.text.now c.if-lead-ge224.len.0 c.if-lead-ge224.len.1
 character c =
@@ -54,8 +51,5 @@ character c =
           rw (is.0, is.1) (first.two (grind (arith, bytes, w.if-lead-ge224.false)))
     ]
 
-pub returns-clause-piece : goal.returns-clause-piece
-returns-clause-piece c = piece_of (character c) (grind arith) c.value-value-2.ensures.within c.value-value-2.ensures.valued
-
-pub returns-clause-one : goal.returns-clause-one
-returns-clause-one c = (character c).one
+pub returns : goal.returns
+returns c = record { piece = piece_of (character c) (grind arith) c.value-value-2.ensures.within c.value-value-2.ensures.valued; one = (character c).one }
