@@ -114,11 +114,8 @@ IsLeft-bad {bytes} {at} {start} e =
 -- ---- the bytes of a begun character
 
 module _ (subpart : List ℕ) (is : IsSubpart subpart) where
-  no_text : text_len subpart ≡ 0
-  no_text = text_len-no_char subpart (subpart_no_char subpart is)
-
   subpart-text : text_of subpart ≡ []
-  subpart-text = text_of-none subpart no_text
+  subpart-text = text_of-none subpart (text_len-no_char subpart (subpart_no_char subpart is))
 
   -- they give nothing
   pub subpart-decoded : (r : Bool) → decoded_under r subpart ≡ []

@@ -50,6 +50,3 @@ module _ (bytes : List ℕ) (at : ℕ) (within : at ≤ length bytes) (front : I
 
   pub text_len-split : text_len bytes ≡ at + text_len (drop at bytes)
   text_len-split = rw (take-append-drop, length-take-le at bytes within) at (text_len-after (take at bytes) (drop at bytes) front)
-
-  pub text_len-all : IsUtf8 (drop at bytes) → text_len bytes ≡ length bytes
-  text_len-all rest = utf8_valid_len-IsUtf8 bytes (rw take-append-drop at (IsUtf8-append (take at bytes) (drop at bytes) front rest))

@@ -42,6 +42,7 @@ impl Decoder {
 
     /// A decoder that was given nothing.
     #[inline]
+    #[tactic(auto, using(crate::proofs::StandingLemmas::stands_new))]
     pub const fn new() -> Decoder
         ensures { StandsAfter result [] }
     {

@@ -28,6 +28,7 @@ pub fn pieces()
 
 /// A piece that is taken at once gives the characters and the end that pushing its bytes one by one gives.
 #[inline]
+#[tactic(auto, using(crate::proofs::PushesLemmas::pushed_text, crate::proofs::PushesLemmas::pushed_end))]
 pub fn taken_as_pushed()
     ensures { TakesAsPushed }
 {}
