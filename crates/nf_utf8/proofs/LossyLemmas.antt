@@ -15,22 +15,12 @@ invalid_begun : (rest : List ℕ) → 0 < subpart_len rest → utf8_invalid_len 
 invalid_begun rest some = grind (arith, nat_tests)
 
 -- the bytes after the text
-abbrev rest_at : List ℕ → List ℕ
+abbrev pub rest_at : List ℕ → List ℕ
 rest_at bytes = drop (text_len bytes) bytes
 
-ill_formed_invalid : (bytes : List ℕ) {at start : ℕ} → ending_of bytes ≡ Bad at start → text_len bytes + utf8_invalid_len (rest_at bytes) ≡ subpart_end at start
+pub ill_formed_invalid : (bytes : List ℕ) {at start : ℕ} → ending_of bytes ≡ Bad at start → text_len bytes + utf8_invalid_len (rest_at bytes) ≡ subpart_end at start
 ill_formed_invalid bytes {at} {start} e =
     grind (arith, nat_tests, ill_formed bytes at start e, utf8_error_len_some (rest_at bytes), utf8_invalid_len_pos (rest_at bytes), invalid_begun (rest_at bytes), length-drop (text_len bytes) bytes)
-
--- std tells how many bytes are invalid: those of the part that a byte breaks off
-pub record IsTold (bytes : List ℕ) (n : ℕ) : Type 0 where
-  pub bad : ending_of bytes ≡ Bad (begun_len bytes) (text_len bytes)
-  pub end : subpart_end (begun_len bytes) (text_len bytes) ≡ text_len bytes + n
-
-pub is_told : (bytes : List ℕ) (n : ℕ) → utf8_error_len (rest_at bytes) ≡ Some n → IsTold bytes n
-is_told bytes n told =
-    let bad = ending_of-ill_formed bytes (told_ill_formed bytes n told) in
-    record { bad = bad; end = sym (ill_formed_invalid bytes bad) ∙ ap (λ o. text_len bytes + unwrap_or o (length (rest_at bytes))) told }
 
 pub few_at_end : (bytes : List ℕ) → begun_at_end bytes ≤ 3
 few_at_end = by_subparts (λ bytes. begun_at_end bytes ≤ 3)

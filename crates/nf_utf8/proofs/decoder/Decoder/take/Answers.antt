@@ -6,36 +6,28 @@ use Rattle.nf_utf8.proofs.decoder.Decoder.take.Goals as goal
 nothing : (c : goal.After-take_text) → Completes c.args.self.now c.args.piece.now None 0
 nothing c = (sym c.self.view_is ∙ c.if-is_empty.ensures.0 refl, refl)
 
-pub returns-then-is_empty : goal.returns-then-is_empty
-returns-then-is_empty c =
-    let subpart : List ℕ = c.args.self.now in
-    let taken = c.take_text.ensures in
-    record {
-      takes = λ bytes. taken.takes subpart bytes (nothing c);
-      only = λ bytes first text end s t. takes_same t (taken.takes subpart bytes (nothing c) s);
-      stands = λ bytes. taken.stands subpart bytes (nothing c);
-      inside = search rules;
-      text = search rules;
-      counts = taken.counts subpart (nothing c);
-    }
+pub returns-then-is_empty-clause-takes : goal.returns-then-is_empty-clause-takes
+returns-then-is_empty-clause-takes c bytes = c.take_text.ensures.takes c.args.self.now bytes (nothing c)
+
+pub returns-then-is_empty-clause-only : goal.returns-then-is_empty-clause-only
+returns-then-is_empty-clause-only c bytes first text end s t = takes_same t (returns-then-is_empty-clause-takes c bytes s)
+
+pub returns-then-is_empty-clause-stands : goal.returns-then-is_empty-clause-stands
+returns-then-is_empty-clause-stands c bytes = c.take_text.ensures.stands c.args.self.now bytes (nothing c)
 
 begun : (c : goal.After-take_text-in-Char) → Completes c.args.self.now c.args.piece.now (Some c.in-Char.c) c.in-Char.len
 begun c =
     let some : ¬ (c.args.self.now ≡ []) = λ none. let empty = c.is_empty.ensures.1 (c.self.view_is ∙ none) in absurd (cc) in
     (some, rw c.self.view_is at c.in-Char.ensures)
 
-pub returns-in-Char : goal.returns-in-Char
-returns-in-Char c =
-    let subpart : List ℕ = c.args.self.now in
-    let taken = c.take_text-in-Char.ensures in
-    record {
-      takes = λ bytes. taken.takes subpart bytes (begun c);
-      only = λ bytes first text end s t. takes_same t (taken.takes subpart bytes (begun c) s);
-      stands = λ bytes. taken.stands subpart bytes (begun c);
-      inside = search rules;
-      text = search rules;
-      counts = taken.counts subpart (begun c);
-    }
+pub returns-in-Char-clause-takes : goal.returns-in-Char-clause-takes
+returns-in-Char-clause-takes c bytes = c.take_text-in-Char.ensures.takes c.args.self.now bytes (begun c)
+
+pub returns-in-Char-clause-only : goal.returns-in-Char-clause-only
+returns-in-Char-clause-only c bytes first text end s t = takes_same t (returns-in-Char-clause-takes c bytes s)
+
+pub returns-in-Char-clause-stands : goal.returns-in-Char-clause-stands
+returns-in-Char-clause-stands c bytes = c.take_text-in-Char.ensures.stands c.args.self.now bytes (begun c)
 
 pub returns-in_default : goal.returns-in_default
 returns-in_default c =
