@@ -16,7 +16,7 @@ use Rattle.nf_lanes.specs.Sets.{byte_sets, pair_sets}
 use Rattle.nf_forms.specs.Forms.{decomposed}
 use Rattle.nf_forms.specs.Laws.Runs.{has_starter-append, lead-append, longest-append, lead-marks}
 use Rattle.nf_forms.specs.Laws.StreamSafe.{decomposed-append}
-use Rattle.nf_forms.specs.Runs.{has_starter, lead, trail, longest}
+use Rattle.nf_forms.specs.Runs.{has_starter, lead, longest}
 use Rattle.nf_forms.specs.Sound.{is_sound}
 use Rattle.nf_forms.specs.Ucd.{ucd}
 use Rattle.nf_forms.specs.declared.form.Form.TheVariants.{Nfkd}
@@ -50,9 +50,6 @@ starts-lead b next is high =
 
 pub boundary : (text : List ℕ) (at : ℕ) → at < length text → starts_at text at ≡ true → IsCharBoundary text at
 boundary text at within is = (omega (arith, within), λ inside high. starts-lead _ _ is high)
-
-trail-le-longest : (w : List ℕ) → trail ucd w ≤ longest ucd w
-trail-le-longest w = let is = rw append-nil at (longest-append ucd w []) in omega arith
 
 -- nothing stands before the front of a text; and plain characters have no run
 pub short-none : (text : List ℕ) → IsUtf8 text → IsShortTo ucd text 0
@@ -101,7 +98,7 @@ module _ (sound : (c : ℕ) → is_sound ucd c ≡ true) where
       record {
         sound = rw (list_all-append, short.sound, all_sound cs);
         lead = rw decomposed-append (grind (arith, nat_tests, lead-append ucd w v, lead-marks ucd w, short.lead, started.lead));
-        longest = rw decomposed-append (omega (arith, longest-append ucd w v, trail-le-longest w, short.longest, started.lead, started.longest));
+        longest = rw decomposed-append (omega (arith, longest-append ucd w v, rw append-nil at (longest-append ucd w []), short.longest, started.lead, started.longest));
       }
 
   -- so many bytes from a place on at which one stands

@@ -108,14 +108,10 @@ module _ (p : Properties) (w : List ℕ) where
   abbrev Says : ℕ → Type 0
   Says v = (v < 16) × ((v == 4) ≡ false → HasValue p w v × ((v == 8) ≡ false))
 
-  says_together : together p w ≡ true → Says (cond (has_starter p w) 0 4 + trail p w)
-  says_together is = (grind (arith, nat_tests), λ some. (grind (arith, nat_tests), grind (arith, nat_tests)))
-
-  says_apart : apart p w ≡ true → Says (8 + 4 * trail p w + count_by (is_nonstarter p) w)
-  says_apart is = (grind (arith, nat_tests), λ some. (grind (arith, nat_tests), grind (arith, nat_tests)))
-
   value-row : Says (row_value p w)
-  value-row = next (together p w) (apart p w) _ _ says_together says_apart
+  value-row = next (together p w) (apart p w) (cond (has_starter p w) 0 4 + trail p w) (8 + 4 * trail p w + count_by (is_nonstarter p) w)
+      (λ is. (grind (arith, nat_tests), λ some. (grind (arith, nat_tests), grind (arith, nat_tests))))
+      (λ is. (grind (arith, nat_tests), λ some. (grind (arith, nat_tests), grind (arith, nat_tests))))
     where
       next : (b d : Bool) (m n : ℕ) → (b ≡ true → Says m) → (d ≡ true → Says n) → Says (cond b m (cond d n 4))
       next true d m n first second = first refl

@@ -1,5 +1,5 @@
 -- Fronts of bytes, and what is left after them.
-use Rattle.nf_utf8.proofs.Common.{◌≡◌, ℕ, ◌+◌, ◌-◌, Bool, true, false, List, [], ◌∷◌, ◌++◌, length, drop, refl, sym, ap, ◌∙◌, arith, nat_tests, append_assoc, length-append, length-drop, map-append, drop-append-le, drop-append-add, encode_utf8_all, encodes-append, encodes-chars, chars, length-le-encodes, IsUtf8, Ending, Whole, Bad, Cut, moved, text_len, text_of, ending_of, replacement, decoded_text, subpart_end, decoded_of, ending_at, IsSubpart, decoded_under, IsLeft}
+use Rattle.nf_utf8.proofs.Common.{◌≡◌, ℕ, ◌+◌, ◌-◌, Bool, true, false, List, [], ◌∷◌, ◌++◌, length, drop, refl, sym, ap, ◌∙◌, arith, nat_tests, append_assoc, length-append, length-drop, map-append, drop-append-le, drop-append-add, encode_utf8_all, encodes-append, encodes-chars, chars, length-le-encodes, IsUtf8, Ending, Whole, Bad, Cut, moved, text_of, ending_of, replacement, decoded_text, subpart_end, decoded_of, ending_at, IsSubpart, decoded_under, IsLeft}
 use Rattle.std.proofs.Common.{add_assoc}
 use Rattle.std.proofs.Math.Nat.{zero-add}
 use Rattle.nf_utf8.proofs.BegunLen.{begun_len-after}

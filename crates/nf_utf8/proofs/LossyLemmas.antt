@@ -1,6 +1,6 @@
 -- The text with U+FFFD for each maximal subpart of an ill-formed sequence, and std's.
-use Rattle.nf_utf8.proofs.Common.{◌≡◌, ℕ, ◌+◌, ◌<◌, ◌≤◌, ◌==◌, cond, List, [], ◌∷◌, ◌++◌, length, take, drop, Some, unwrap_or, encode_utf8_all, ⊎_elim, refl, sym, ap, ◌∙◌, arith, append-nil, append_assoc, length-drop, take_all, take-append-drop, utf8_lossy, utf8_invalid_len, utf8_error_len, replacement_bytes, order, scalars-append, three, utf8_error_len_some, utf8_invalid_len_pos, ne_eqb, nat_tests, map-append, drop_all, encodes-append, utf8_lossy-IsUtf8, utf8_lossy_step, utf8_lossy_empty, IsText, Bad, text_len, text_of, subpart_len, begun_len, ending_of, replacement, subpart_end, replaced, begun_at_end, replaced_whole}
-use Rattle.nf_utf8.proofs.BegunLen.{begun_few, told_ill_formed, ending_of-ill_formed}
+use Rattle.nf_utf8.proofs.Common.{◌≡◌, ℕ, ◌+◌, ◌<◌, ◌≤◌, ◌==◌, cond, List, [], ◌∷◌, ◌++◌, length, take, drop, encode_utf8_all, ⊎_elim, refl, sym, arith, append-nil, append_assoc, length-drop, take_all, take-append-drop, utf8_lossy, utf8_invalid_len, replacement_bytes, order, scalars-append, three, utf8_error_len_some, utf8_invalid_len_pos, ne_eqb, nat_tests, map-append, drop_all, encodes-append, utf8_lossy-IsUtf8, utf8_lossy_step, utf8_lossy_empty, IsText, Bad, text_len, text_of, subpart_len, begun_len, ending_of, replacement, subpart_end, replaced, begun_at_end, replaced_whole}
+use Rattle.nf_utf8.proofs.BegunLen.{begun_few}
 use Rattle.nf_utf8.proofs.ReadingLemmas.{text_same, text_of-IsText, encodes-text_of, front_of, front_of-IsUtf8, ill_formed}
 use Rattle.nf_utf8.proofs.ReplacedLemmas.{chars-own, by_subparts, decoded_of-all, decoded_of-ill_formed, bytes_in-all, bytes_in-ill_formed}
 

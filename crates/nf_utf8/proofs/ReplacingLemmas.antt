@@ -1,5 +1,5 @@
 -- Stretches of text, each with the ill-formed part after it.
-use Rattle.nf_utf8.proofs.Common.{◌≡◌, ℕ, ◌+◌, ◌<◌, ◌≤◌, List, [], ◌∷◌, ◌++◌, length, take, drop, true, arith, append_assoc, take-append-drop, length-take, take-take, chars, IsUtf8, replacement_bytes, drop-drop, drop-append-le, chars-append, chars-encodes, IsUtf8-append, text_len, text_of, begun_len, replacement, subpart_end, IsLeft, IsStretch, refl, sym, ap, ◌∙◌, Some, unwrap_or, utf8_error_len}
+use Rattle.nf_utf8.proofs.Common.{◌≡◌, ℕ, ◌+◌, ◌≤◌, List, [], ◌∷◌, ◌++◌, length, take, drop, true, arith, append_assoc, take-append-drop, length-take, take-take, chars, IsUtf8, replacement_bytes, drop-drop, drop-append-le, chars-append, chars-encodes, IsUtf8-append, text_len, text_of, begun_len, replacement, subpart_end, IsLeft, IsStretch, refl, sym, ap, ◌∙◌, Some, unwrap_or, utf8_error_len}
 use Rattle.nf_utf8.specs.declared.lossy.Stretch.{Stretch}
 use Rattle.nf_utf8.proofs.LossyLemmas.{rest_at, ill_formed_invalid, encodes_replacement}
 use Rattle.nf_utf8.proofs.BegunLen.{told_ill_formed, ending_of-ill_formed}

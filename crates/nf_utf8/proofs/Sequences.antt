@@ -1,5 +1,5 @@
 -- Which bytes spell a character, which begin one, and which begin none.
-use Rattle.nf_utf8.proofs.Common.{append-nil, ℕ, ◌-◌, ◌<◌, ◌≤◌, ⊎_elim, List, [], ◌∷◌, ◌++◌, length, get_or, IsUtf8, encode_utf8, refl, sym, ap, arith, length-append, subst, IsInRange, StartsWithNoChar, second_byte_min, order, width_is, no_text, nat_tests, of_one, of_two, of_three, of_four, BeginsText, IsSecond, IsContinuation, IsSubpart}
+use Rattle.nf_utf8.proofs.Common.{append-nil, ℕ, ◌-◌, ◌≤◌, ⊎_elim, List, [], ◌∷◌, ◌++◌, length, get_or, IsUtf8, encode_utf8, refl, sym, ap, arith, length-append, subst, IsInRange, StartsWithNoChar, second_byte_min, order, width_is, no_text, nat_tests, of_two, of_three, of_four, BeginsText, IsSecond, IsContinuation, IsSubpart}
 use Rattle.std.proofs.str.Faults.{Ranged, no_char}
 use Rattle.nf_utf8.proofs.Texts.{BeginsText-front}
 

@@ -1,5 +1,5 @@
 -- What a byte tells of the bytes that begin a character, said of all the bytes that a decoder stands after.
-use Rattle.nf_utf8.proofs.Common.{◌≡◌, ℕ, suc, ◌+◌, ◌<◌, true, ◌&&◌, List, [], ◌∷◌, ◌++◌, length, take, IsUtf8, encode_utf8, chars, refl, ap, ◌∙◌, arith, append-nil, length-drop, take_all, take_at, take-take, length-take-le, IsScalar, one, nat_tests, length_push, same_from_push, drop_all, IsUtf8-encode, utf8_valid_len-IsUtf8, Step, More, Char, BadByte, BeginsText, Bad, text_len, text_of, rest_of, begun_len, ending_of, StandsAfter, Answers, bytes_after, ending_at, IsSubpart}
+use Rattle.nf_utf8.proofs.Common.{◌≡◌, ℕ, suc, ◌+◌, ◌<◌, true, ◌&&◌, List, [], ◌∷◌, ◌++◌, length, take, IsUtf8, encode_utf8, chars, refl, ap, ◌∙◌, arith, append-nil, length-drop, take_all, take_at, take-take, length-take-le, IsScalar, nat_tests, length_push, same_from_push, drop_all, IsUtf8-encode, utf8_valid_len-IsUtf8, Step, More, Char, BadByte, BeginsText, Bad, text_len, text_of, rest_of, begun_len, ending_of, StandsAfter, Answers, bytes_after, ending_at, IsSubpart}
 use Rattle.std.proofs.str.Decodes.{chars-nil, chars-encodes}
 use Rattle.nf_utf8.specs.Tells.{Tells, subpart_after}
 use Rattle.nf_utf8.proofs.Texts.{BeginsText-IsUtf8}

@@ -1,5 +1,5 @@
 -- `text_len`, the length of the longest front that is well-formed.
-use Rattle.nf_utf8.proofs.Common.{◌≡◌, ℕ, zero, suc, ◌+◌, ◌-◌, ◌≤◌, List, ◌++◌, length, take, drop, IsUtf8, encode_utf8, ap, arith, length-take-le, take-append-drop, StartsWithNoChar, utf8_valid_len, valid_len_up_to, width_is, longer, IsUtf8-from_is_utf8, is_utf8-from_IsUtf8, no_text, cond_both, IsUtf8-nil, IsUtf8-append, IsUtf8-encode, utf8_valid_len-IsUtf8, text_len}
+use Rattle.nf_utf8.proofs.Common.{◌≡◌, ℕ, zero, suc, ◌+◌, ◌-◌, ◌≤◌, List, ◌++◌, length, take, drop, IsUtf8, encode_utf8, ap, arith, length-take-le, take-append-drop, StartsWithNoChar, utf8_valid_len, valid_len_up_to, width_is, longer, IsUtf8-from_is_utf8, is_utf8-from_IsUtf8, no_text, cond_both, IsUtf8-nil, IsUtf8-append, IsUtf8-encode, text_len}
 use Rattle.nf_utf8.proofs.Fronts.{IsLongestFront, longest_same, longest_after}
 use Rattle.nf_utf8.proofs.Texts.{IsUtf8-after}
 

@@ -1,4 +1,4 @@
-use Rattle.nf_utf8.proofs.Common.{◌≤◌, refl, sym, arith, length-take-le, take-take, IsUtf8-from_ascii}
+use Rattle.nf_utf8.proofs.Common.{sym, arith, length-take-le, take-take, IsUtf8-from_ascii}
 use Rattle.nf_utf8.proofs.lossy.put_stretch.Goals as goal
 
 pub slice_bounds-ascii_prefix-end : goal.slice_bounds-ascii_prefix-end

@@ -1,4 +1,4 @@
-use Rattle.nf_utf8.proofs.Common.{◌≡◌, ◌-◌, refl, arith, encode_utf8, length, length-drop, drop-drop, take_rest, decoded_of, drop}
+use Rattle.nf_utf8.proofs.Common.{◌≡◌, ◌-◌, arith, encode_utf8, length, length-drop, drop-drop, take_rest, decoded_of, drop}
 use Rattle.nf_utf8.proofs.SourceLemmas.{source-next, source-none}
 use Rattle.nf_utf8.proofs.source.source_len.Goals as goal
 

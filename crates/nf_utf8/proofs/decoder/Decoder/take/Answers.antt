@@ -1,4 +1,3 @@
-use Rattle.std.proofs.Common.{rules}
 use Rattle.nf_utf8.proofs.Common.{◌≡◌, List, ℕ, [], None, Some, refl, sym, ◌∙◌, inr, arith, IsUtf8-nil, chars-nil, StandsAfter, Completes, IsFront}
 use Rattle.nf_utf8.proofs.TakingLemmas.{Joined, taken, counts, takes_same}
 use Rattle.nf_utf8.proofs.decoder.Decoder.take.Goals as goal
