@@ -50,11 +50,6 @@ pub record HasFed (policy : Policy) (f : Form) (p : Properties) (base : ℕ) (st
   pub stands : StandsAfter policy f p state (bytes ++ fed)
   pub put : Puts old new (settled_utf8 policy f p bytes) (settled_utf8 policy f p (bytes ++ fed))
 
--- it was fed all that the source gave, to its end, or it was stopped; `state` is where it stands then
-abbrev pub FeedsAll : ℕ → Policy → Form → Properties → ℕ → List ℕ → SourceState → SourceState → SinkState → SinkState → State → Result (Unit {0}) Fault → Type 0
-FeedsAll most policy f p base bytes source left old new state (Ok _) = (fed : List ℕ) × Consumes source.coming left.coming fed × IsAtEnd left.coming × HasFed policy f p base state bytes fed old new
-FeedsAll most policy f p base bytes source left old new state (Err fault) = Drives most policy f p base bytes source left old new (Err fault)
-
 -- the filter stood after `bytes` and was fed what the source had, to its end; all that it wrote, before and now, is the
 -- whole form, of which something more is said
 pub record DrivesToEnd (policy : Policy) (f : Form) (p : Properties) (bytes : List ℕ) (source left : SourceState) (old new : SinkState) (Says : List ℕ → Type 0) : Type 0 where

@@ -1,9 +1,9 @@
-ghost use Rattle.std.specs.Prelude.{◌≡◌, ◌<◌, ◌↔◌, ℕ, List, [], length, IsTrue, IsFalse, OnOk, is_ok};
+ghost use Rattle.std.specs.Prelude.{◌≡◌, ◌<◌, ◌↔◌, ℕ, List, [], length, IsTrue, IsFalse, OnOk};
 ghost use Rattle.nf_forms.specs.declared.form.Form.{Form};
 ghost use Rattle.nf_filter.specs.Filter.{rows_of, state_of, base_of, is_spent, StandsAfter};
 ghost use Rattle.nf_filter.specs.declared.policy.Policy.{Policy};
 ghost use Rattle.nf_filter.specs.Policy.{as_is};
-ghost use Rattle.nf_filter.specs.Drives.{FeedsAll, Drives};
+ghost use Rattle.nf_filter.specs.Drives.{Drives};
 ghost use Rattle.nf_forms.specs.Twice.{ChangesOnce};
 ghost use Rattle.nf_filter.specs.Again.{AddsWhatStays, DrivesOnce};
 ghost use Rattle.nf_filter.specs.Joined.{DrivesPieces};
@@ -44,7 +44,7 @@ pub fn drive<R: Rows, I: Source, S: Sink>(
 
 /// The same in pieces of at most as many bytes as the buffer has, which is not empty. What stands in it is overwritten.
 pub fn drive_buffered<R: Rows, I: Source, S: Sink>(
-    filter: Filter<'_, R>,
+    mut filter: Filter<'_, R>,
     source: &mut I,
     sink: &mut S,
     buffer: &mut [u8],
@@ -66,14 +66,21 @@ pub fn drive_buffered<R: Rows, I: Source, S: Sink>(
     ensures lenders { ((I.state source.new).lender ≡ (I.state source.old).lender) × ((S.state sink.new).lender ≡ (S.state sink.old).lender) }
 {
     what_was_finished_stays();
-    let mut filter = filter;
     if filter.spent() {
         return Err(Fault::Spent);
     }
-    if let Err(fault) = feed_all(&mut filter, source, sink, buffer) {
-        return Err(fault);
+    loop {
+        let given = match source.get(buffer) {
+            Ok(given) => given,
+            Err(Failed) => return Err(Fault::Read),
+        };
+        if given == 0 {
+            return filter.finish(sink);
+        }
+        if let Err(fault) = filter.feed(&buffer[..given], sink) {
+            return Err(fault);
+        }
     }
-    filter.finish(sink)
 }
 
 /// Drives a new filter.
@@ -93,38 +100,4 @@ pub fn run<R: Rows, I: Source, S: Sink>(
     ensures lenders { ((I.state source.new).lender ≡ (I.state source.old).lender) × ((S.state sink.new).lender ≡ (S.state sink.old).lender) }
 {
     drive(Filter::new(rows, form, base), source, sink)
-}
-
-/// Feeds what the source gives, in pieces that fit into the buffer, until its end.
-fn feed_all<R: Rows, I: Source, S: Sink>(
-    filter: &mut Filter<'_, R>,
-    source: &mut I,
-    sink: &mut S,
-    buffer: &mut [u8],
-) -> Result<(), Fault>
-    requires some { 0 < length buffer.old }
-    requires unspent { IsFalse (is_spent (state_of filter.old)) }
-    ensures rows { rows_of filter.new ≡ rows_of filter.old }
-    ensures base { base_of (state_of filter.new) ≡ base_of (state_of filter.old) }
-    ensures unspent { OnOk result (IsFalse (is_spent (state_of filter.new))) }
-    ensures not_spent { ¬ (result ≡ Err Fault.Spent) }
-    ensures read { (result ≡ Err Fault.Read) ↔ IsTrue (I.state source.new).is_failed }
-    ensures end { (I.state source.new).is_at_end ≡ is_ok result }
-    ensures feeds { let p = R.properties (rows_of filter.old) in
-        (policy : Policy) (f : Form) (bytes : List ℕ) → StandsAfter policy f p (state_of filter.old) bytes
-        → FeedsAll (length buffer.old) policy f p (base_of (state_of filter.old)) bytes (I.state source.old) (I.state source.new) (S.state sink.old) (S.state sink.new) (state_of filter.new) result }
-    ensures lenders { ((I.state source.new).lender ≡ (I.state source.old).lender) × ((S.state sink.new).lender ≡ (S.state sink.old).lender) }
-{
-    loop {
-        let given = match source.get(buffer) {
-            Ok(given) => given,
-            Err(Failed) => return Err(Fault::Read),
-        };
-        if given == 0 {
-            return Ok(());
-        }
-        if let Err(fault) = filter.feed(&buffer[..given], sink) {
-            return Err(fault);
-        }
-    }
 }

@@ -10,10 +10,10 @@ use nf_row::Rows;
 use nf_utf8::LossyText;
 
 impl Reading {
-    ghost use Rattle.std.specs.Prelude.{◌≡◌, ◌+◌, ◌<◌, ◌≤◌, true, ℕ, List, [], ◌++◌, length, None, IfErr, IfOk, OnOk, MatchResult};
+    ghost use Rattle.std.specs.Prelude.{◌≡◌, ◌+◌, ◌<◌, ◌≤◌, ℕ, List, [], ◌++◌, length, None, IfErr, IfOk, OnOk, MatchResult};
     ghost use Rattle.nf_forms.specs.declared.form.Form.{Form};
     ghost use Rattle.nf_filter.specs.Block.{Start, block_state};
-    ghost use Rattle.nf_filter.specs.Faults.{IsOfClosing, IsOfReading, IsOfTaking, fault_in};
+    ghost use Rattle.nf_filter.specs.Faults.{IsOfClosing, IsOfReading, fault_in};
     ghost use Rattle.nf_filter.specs.Feeding.{HasReadTo, ReadsTo, RefusesBytes};
     ghost use Rattle.nf_filter.specs.Feeds.{Feeds};
     ghost use Rattle.nf_filter.specs.Finishes.{Closes};
@@ -92,7 +92,8 @@ impl Reading {
         Ok(())
     }
 
-    /// At the end of all bytes: a character that it cuts is refused, or U+FFFD is taken for it.
+    /// At the end of all bytes: a character that it cuts is refused, or U+FFFD is taken for it, and the sink is given what that
+    /// settles.
     pub fn close<R: Rows, S: Sink>(
         &self,
         policy: Policy,
@@ -107,27 +108,9 @@ impl Reading {
             → Closes policy f p counted.new base bytes (S.state sink.old) (S.state sink.new) result }
         ensures lender { (S.state sink.new).lender ≡ (S.state sink.old).lender }
     {
-        if policy.replace {
-            return self.replace_cut(policy, rows, counted, sink);
+        if !policy.replace {
+            return self.end();
         }
-        self.end()
-    }
-
-    /// Takes U+FFFD for a character that the end cuts, and gives the sink what that settles.
-    fn replace_cut<R: Rows, S: Sink>(
-        &self,
-        policy: Policy,
-        rows: &R,
-        counted: &mut Counted,
-        sink: &mut S,
-    ) -> Result<(), Fault>
-        requires ready { IsReady (ends_at counted.old) self.now }
-        ensures faults { IfErr result IsOfTaking }
-        ensures cut { let p = R.properties rows.now in
-            (f : Form) (base : ℕ) (bytes : List ℕ) → HasReadTo policy f p counted.old base self.now bytes [] → policy.replace ≡ true
-            → Closes policy f p counted.new base bytes (S.state sink.old) (S.state sink.new) result }
-        ensures lender { (S.state sink.new).lender ≡ (S.state sink.old).lender }
-    {
         let carried = self.decoder.carried();
         if carried == 0 {
             return Ok(());

@@ -2,8 +2,9 @@ ghost use Rattle.std.specs.Prelude.{◌≡◌, ◌≤◌, false};
 ghost use Rattle.nf_filter.specs.Counted.{ends_at};
 ghost use Rattle.nf_filter.specs.Taker.{IsReady};
 
+use crate::block::Block;
 use crate::counted::Counted;
-use crate::devices::{Failed, Sink};
+use crate::devices::Sink;
 use crate::fault::Fault;
 use crate::held::Held;
 use crate::laws::what_was_finished_stays;
@@ -19,12 +20,6 @@ pub struct Filter<'r, R> {
     pub(crate) state: State,
 }
 
-/// Nothing is replaced, and characters that are not assigned are taken.
-const AS_IS: Policy = Policy {
-    replace: false,
-    assigned: false,
-};
-
 /// Where a filter stands.
 #[derive(Drop)]
 pub struct State {
@@ -35,6 +30,39 @@ pub struct State {
     pub(crate) counted: Counted,
     ghost base_within: { base ≤ reading.offset },
     ghost ready: { spent ≡ false → IsReady (ends_at counted) reading },
+}
+
+impl State {
+    ghost use Rattle.std.specs.Prelude.{◌≡◌, [], false};
+    ghost use Rattle.nf_forms.specs.Properties.{Properties};
+    ghost use Rattle.nf_forms.specs.declared.form.Form.{Form};
+    ghost use Rattle.nf_normalizer.specs.Normalizer.{HasTaken, IsWithin};
+    ghost use Rattle.nf_filter.specs.Policy.{as_is};
+    ghost use Rattle.nf_filter.specs.Filter.{StandsAfter};
+
+    /// Nothing was taken yet. Nothing is replaced, and characters that are not assigned are taken.
+    fn new(base: u64, normalizer: Normalizer) -> State
+        requires within { IsWithin normalizer }
+        ensures base { result.base ≡ base }
+        ensures offset { result.reading.offset ≡ base }
+        ensures unspent { result.spent ≡ false }
+        ensures stands { (f : Form) (p : Properties) → HasTaken f p normalizer [] → StandsAfter as_is f p result [] }
+    {
+        State {
+            base,
+            spent: false,
+            policy: Policy {
+                replace: false,
+                assigned: false,
+            },
+            reading: Reading::new(base),
+            counted: Counted {
+                normalizer,
+                chars: 0,
+                put: 0,
+            },
+        }
+    }
 }
 
 impl<'r, R: Rows> Filter<'r, R> {
@@ -64,13 +92,7 @@ impl<'r, R: Rows> Filter<'r, R> {
     {
         Filter {
             rows,
-            state: State {
-                base,
-                spent: false,
-                policy: AS_IS,
-                reading: Reading::new(base),
-                counted: Counted::new(Normalizer::new(form)),
-            },
+            state: State::new(base, Normalizer::new(form)),
         }
     }
 
@@ -84,13 +106,7 @@ impl<'r, R: Rows> Filter<'r, R> {
     {
         Filter {
             rows: plain.rows(),
-            state: State {
-                base,
-                spent: false,
-                policy: AS_IS,
-                reading: Reading::new(base),
-                counted: Counted::new(Normalizer::fast(plain, form)),
-            },
+            state: State::new(base, Normalizer::fast(plain, form)),
         }
     }
 
@@ -201,9 +217,11 @@ impl<'r, R: Rows> Filter<'r, R> {
             chars: counted.chars,
             put: counted.put,
         };
-        match counted.end(rows, sink) {
+        let mut block = Block::new(false);
+        counted.normalizer.settle(rows, &mut block.room);
+        match block.close(Ok(()), sink) {
             Ok(()) => Ok(tally),
-            Err(Failed) => Err(Fault::Write),
+            Err(fault) => Err(fault),
         }
     }
 
@@ -225,7 +243,7 @@ impl<'r, R: Rows> Filter<'r, R> {
         }
         Held {
             bytes: self.state.reading.decoder.carried(),
-            pending: self.state.counted.pending(),
+            pending: self.state.counted.normalizer.pending(),
         }
     }
 

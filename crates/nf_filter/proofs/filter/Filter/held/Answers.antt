@@ -9,4 +9,4 @@ returns-clause-bytes g c = λ policy f bytes stands.
 
 pub returns-clause-pending : goal.returns-clause-pending
 returns-clause-pending g c = λ policy f bytes stands.
-    rw (taken-text stands) (c.pending.ensures.value f _ stands.reading.before stands.reading.taken)
+    rw (taken-text stands) (c.pending.ensures.value f _ stands.reading.before stands.reading.taken.machine)

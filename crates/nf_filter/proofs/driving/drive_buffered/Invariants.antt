@@ -1,6 +1,6 @@
 use Rattle.nf_filter.proofs.Common.{◌≡◌, ℕ, ◌-◌, ◌^◌, List, length, IsFalse, Consumes, Form, Policy, rows_of, state_of, base_of, offset_of, is_spent, StandsAfter}
 use Rattle.nf_filter.specs.Drives.{HasFed}
-use Rattle.nf_filter.proofs.driving.feed_all.Given as goal
+use Rattle.nf_filter.proofs.driving.drive_buffered.Given as goal
 
 abbrev pub invariant-loop-given : goal.invariant-loop-given
 invariant-loop-given g l = record {
