@@ -1,5 +1,5 @@
 -- A step of a normalizer, what of it went to the sink, and a text of which only assigned characters may be taken.
-use Rattle.nf_filter.proofs.Common.{◌≡◌, ℕ, ◌<◌, Bool, false, List, ◌++◌, length, Some, None, Ok, Err, sym, arith, Result, Properties, Form, Fault, WriteFault, Unassigned, Counted, Start, BlockState, Written, first_fault, taken_utf8, TakesAllowed, HasTaken, IsPlacedAt, settled_text, allowed, Standing, Option, WritesTo, nat_tests, ⊎_elim, [], ◌∷◌, inl, inr, refl, ap, ◌∙◌, append_assoc, encode_utf8_all, IsUtf8, chars, encodes-chars, safe_form, Given, Extends, Extends-join, Broken}
+use Rattle.nf_filter.proofs.Common.{◌≡◌, ℕ, ◌<◌, Bool, false, List, ◌++◌, length, Some, None, Ok, Err, sym, arith, Result, Properties, Form, Fault, WriteFault, Unassigned, Counted, Start, BlockState, Written, first_fault, taken_utf8, TakesAllowed, TakesAsIs, HasTaken, IsPlacedAt, settled_text, allowed, Standing, Option, WritesTo, nat_tests, ⊎_elim, [], ◌∷◌, inl, inr, refl, ap, ◌∙◌, append_assoc, encode_utf8_all, IsUtf8, chars, encodes-chars, safe_form, Given, Extends, Extends-join, Broken}
 use Rattle.nf_filter.proofs.WritesLemmas.{WritesTo-written, Broken-extends}
 use Rattle.nf_filter.proofs.PolicyLemmas.{allowed-append, first_fault-none, first_fault-stays, taken-all, taken_utf8-grows, first_fault-is, taken_utf8-extends}
 use Rattle.nf_filter.proofs.TakingLemmas.{placed-within}
@@ -71,19 +71,9 @@ module _ {f : Form} {p : Properties} {start : Start} where
         let written = writes (apart start) (standing.given ++ old.kept) (given_and old.kept) in
         record { given = written.given; puts = written.puts; stands = stands-moved standing.stands refl written; put = standing.put }
 
--- what taking the text y, which these bytes gave, comes to after any that was taken
-abbrev pub TakesAfter : Bool → Properties → Counted → BlockState → Counted → BlockState → ℕ → List ℕ → List ℕ → Result (Unit {0}) Fault → Type 0
-TakesAfter a p old before new now begin bytes y r = (f : Form) (place : List ℕ → ℕ) (x : List ℕ) (start : Start) → HasTaken f p old x → allowed a p x ≡ x → IsPlacedAt place begin bytes 0 x y
-    → Written start before (settled_text f p x) → TakesAllowed a f p new start now place (x ++ y) r
-
--- and what taking it as it is comes to
-abbrev pub TakesText : Properties → Counted → BlockState → Counted → BlockState → ℕ → List ℕ → List ℕ → Result (Unit {0}) Fault → Type 0
-TakesText p old before new now begin bytes y r = (f : Form) (place : List ℕ → ℕ) (x : List ℕ) (start : Start) → old.chars ≡ length x → Standing f p old start before x y → IsPlacedAt place begin bytes 0 x y
-    → TakesAllowed false f p new start now place (x ++ y) r
-
 -- so y is taken, which is what may be taken of a text
 pub allowed-part : (a : Bool) (begin : ℕ) (bytes : List ℕ) (rest : List ℕ) {p : Properties} {old new : Counted} {before now : BlockState} {text y : List ℕ} {r : Result (Unit {0}) Fault}
-    → text ≡ y ++ rest → y ≡ allowed a p text → TakesText p old before new now begin bytes y r
+    → text ≡ y ++ rest → y ≡ allowed a p text → TakesAsIs p old before new now begin bytes y r
     → (f : Form) (place : List ℕ → ℕ) (x : List ℕ) (start : Start) → HasTaken f p old x → allowed a p x ≡ x → IsPlacedAt place begin bytes 0 x text → Written start before (settled_text f p x)
     → (allowed a p (x ++ text) ≡ x ++ y) × TakesAllowed false f p new start now place (x ++ y) r
 allowed-part a begin bytes rest {p} {text = text} {y} whole front takes f place x start taken all here written = (

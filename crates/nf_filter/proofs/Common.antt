@@ -19,7 +19,7 @@ pub use Rattle.nf_filter.specs.Devices.{SinkState, SourceState}
 pub use Rattle.nf_filter.specs.Drives.{Drives, DrivesToEnd}
 unfoldable pub use Rattle.nf_filter.specs.Faults.{fault_in}
 pub use Rattle.nf_filter.specs.Faults.{answer_at_end, bad_byte, bad_under, first_fault}
-pub use Rattle.nf_filter.specs.Feeding.{taken_utf8, TakesAllowed, HasReadTo, ReadsTo, RefusesBytes}
+pub use Rattle.nf_filter.specs.Feeding.{taken_utf8, TakesAllowed, TakesAfter, TakesAsIs, HasReadTo, ReadsTo, RefusesBytes}
 pub use Rattle.nf_filter.specs.Feeds.{Feeds}
 pub use Rattle.nf_filter.specs.Filter.{base_of, offset_of, is_spent, StandsAfter, state_of, rows_of}
 unfoldable pub use Rattle.nf_filter.specs.Finishes.{end_of, final_utf8}

@@ -1,10 +1,6 @@
 -- What a filter answers.
 use Rattle.nf_filter.proofs.Common.{cases_Bool, ◌≡◌, ℕ, ◌+◌, ◌<◌, ◌^◌, Bool, true, false, List, [], length, None, Err, ◌⊎◌, inl, inr, ⊎_elim, refl, sym, ap, ◌∙◌, arith, IsTrue, Result, option_map, length-append, ◌↔◌, Properties, Form, text_of, Fault, Write, State, Policy, SinkState, Puts, BreaksOff, as_is, is_usable, fault_in, unusable_decision, decided_in, base_of, offset_of, StandsAfter, HasReadTo}
 
--- a source is at its end, or before it
-pub never : {A : Type 0} {at_end : Bool} → at_end ≡ true → at_end ≡ false → A
-never end before_end = cc
-
 -- the fault that a call told
 pub err_is : {T : Type 0} {fault k : Fault} → (let r : Result T Fault = Err fault in r ≡ Err k) → fault ≡ k
 err_is e = cc

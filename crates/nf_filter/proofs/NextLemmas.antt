@@ -1,5 +1,5 @@
 -- The next text of a piece, taken or refused.
-use Rattle.nf_filter.proofs.Common.{◌≡◌, ℕ, ◌+◌, ◌-◌, Bool, true, false, List, [], ◌∷◌, ◌++◌, length, map, take, drop, take_at, Some, Ok, Err, ⊎_elim, refl, sym, ap, ◌∙◌, arith, append_assoc, append-nil, Result, encode_utf8_all, chars, length-append, length-drop, nil_from_length, Properties, Form, text_of, ending_of, bad_byte, replaced, replaced_len, Fault, Write, Counted, Policy, Reading, Start, BlockState, bad_under, fault_in, TakesAllowed, IsLeft, IsSubpart, ReadsNext, HasRead, HasReadTo, ReadsTo, RefusesBytes, text_under, len_under, decoded_of, IsPlacedAt}
+use Rattle.nf_filter.proofs.Common.{◌≡◌, ℕ, ◌+◌, ◌-◌, Bool, true, false, List, [], ◌∷◌, ◌++◌, length, map, take, drop, take_at, Some, Ok, Err, ⊎_elim, refl, sym, ap, ◌∙◌, arith, append_assoc, append-nil, Result, encode_utf8_all, chars, length-append, length-drop, nil_from_length, Properties, Form, text_of, ending_of, bad_byte, replaced, replaced_len, Fault, Write, Counted, Policy, Reading, Start, BlockState, bad_under, fault_in, TakesAllowed, TakesAfter, IsLeft, IsSubpart, ReadsNext, HasRead, HasReadTo, ReadsTo, RefusesBytes, text_under, len_under, decoded_of, IsPlacedAt}
 use Rattle.std.proofs.Math.Nat.{zero-add}
 use Rattle.std.proofs.lemmas.List.{take-map}
 use Rattle.nf_filter.specs.Kinds.{ill_formed, IsAmong}
@@ -10,7 +10,7 @@ use Rattle.nf_filter.proofs.WritesLemmas.{WritesTo-written}
 use Rattle.nf_filter.proofs.FilterLemmas.{err_is}
 use Rattle.nf_filter.proofs.PolicyLemmas.{first_fault-none, taken-all}
 use Rattle.nf_filter.proofs.PieceLemmas.{place_in, left-text, left-place, left-bad, text_under-first, len_under-first}
-use Rattle.nf_filter.proofs.AllowingLemmas.{TakesAfter, TakesAllowed-settled, refused-more}
+use Rattle.nf_filter.proofs.AllowingLemmas.{TakesAllowed-settled, refused-more}
 
 -- ---- where a character of a text stands in the bytes
 

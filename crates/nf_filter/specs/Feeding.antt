@@ -1,5 +1,5 @@
 -- How a piece is read for a counted, under a policy.
-use Rattle.std.specs.Prelude.{◌≡◌, Bool, ℕ, List, Some, None, Result, Err, OnOk}
+use Rattle.std.specs.Prelude.{◌≡◌, Bool, false, ℕ, List, ◌++◌, length, Some, None, Result, Err, OnOk}
 use Rattle.std.specs.Result.{result_err}
 use Rattle.nf_forms.specs.Properties.{Properties}
 use Rattle.nf_forms.specs.declared.form.Form.{Form}
@@ -10,7 +10,8 @@ use Rattle.nf_filter.specs.declared.policy.Policy.{Policy}
 use Rattle.nf_filter.specs.declared.reading.Reading.{Reading}
 use Rattle.nf_filter.specs.Block.{Start, BlockState, Written, WritesTo}
 use Rattle.nf_filter.specs.Faults.{first_fault, fault_in}
-use Rattle.nf_filter.specs.Counted.{HasTaken, settled_text}
+use Rattle.nf_filter.specs.Counted.{HasTaken, IsPlacedAt, settled_text}
+use Rattle.nf_filter.specs.Stepping.{Standing}
 use Rattle.nf_filter.specs.Taker.{HasRead}
 use Rattle.nf_filter.specs.Policy.{allowed, text_under}
 use Rattle.nf_filter.specs.Settled.{usable}
@@ -25,6 +26,16 @@ pub record TakesAllowed (assigned : Bool) (f : Form) (p : Properties) (counted :
   pub writes : WritesTo start now (taken_utf8 assigned f p x) result
   pub fault : ¬ (result ≡ Err Write) → result_err result ≡ first_fault assigned p place x None
   pub taken : OnOk result (HasTaken f p counted x × (allowed assigned p x ≡ x))
+
+-- what taking the text y, which these bytes gave, comes to after any that was taken
+abbrev pub TakesAfter : Bool → Properties → Counted → BlockState → Counted → BlockState → ℕ → List ℕ → List ℕ → Result (Unit {0}) Fault → Type 0
+TakesAfter a p old before new now begin bytes y r = (f : Form) (place : List ℕ → ℕ) (x : List ℕ) (start : Start) → HasTaken f p old x → allowed a p x ≡ x → IsPlacedAt place begin bytes 0 x y
+    → Written start before (settled_text f p x) → TakesAllowed a f p new start now place (x ++ y) r
+
+-- and what taking it as it is comes to
+abbrev pub TakesAsIs : Properties → Counted → BlockState → Counted → BlockState → ℕ → List ℕ → List ℕ → Result (Unit {0}) Fault → Type 0
+TakesAsIs p old before new now begin bytes y r = (f : Form) (place : List ℕ → ℕ) (x : List ℕ) (start : Start) → old.chars ≡ length x → Standing f p old start before x y → IsPlacedAt place begin bytes 0 x y
+    → TakesAllowed false f p new start now place (x ++ y) r
 
 -- of the bytes, the first of which has the offset `base`, all but `rest` were read, and what they gave was taken
 pub record HasReadTo (policy : Policy) (f : Form) (p : Properties) (counted : Counted) (base : ℕ) (reading : Reading) (bytes rest : List ℕ) : Type 0 where

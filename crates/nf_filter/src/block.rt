@@ -91,7 +91,7 @@ impl Block {
         ensures gives { (start : Start) (w : List ℕ) → WritesTo start (block_state (S.state sink.old) self.old) w found
             → GivesAll start (S.state sink.new) w found result }
     {
-        if is_broken(found) {
+        if let Err(Fault::Write) = found {
             return found;
         }
         match self.empty(sink) {
@@ -113,13 +113,6 @@ impl Block {
         self.room.clear();
         Ok(())
     }
-}
-
-/// Whether the sink failed: it is not touched again then.
-fn is_broken(found: Result<(), Fault>) -> bool
-    ensures { IsTrue result ↔ (found ≡ Err WriteFault) }
-{
-    matches!(found, Err(Fault::Write))
 }
 
 /// Gives `bytes` to the sink, at most so many at once, in as many calls as it asks for.

@@ -19,7 +19,7 @@ pub struct LentReader<'r, R> {
 }
 
 /// Where a source stands.
-#[derive(Clone, Copy, Debug)]
+#[derive(Clone, Copy, Debug, Default)]
 struct Stands {
     failed: bool,
     at_end: bool,
@@ -36,10 +36,7 @@ impl<R> FromReader<R> {
     {
         FromReader {
             reader,
-            stands: Stands {
-                failed: false,
-                at_end: false,
-            },
+            stands: Stands::default(),
         }
     }
 
@@ -64,10 +61,7 @@ impl<'r, R> LentReader<'r, R> {
     {
         LentReader {
             reader,
-            stands: Stands {
-                failed: false,
-                at_end: false,
-            },
+            stands: Stands::default(),
         }
     }
 }

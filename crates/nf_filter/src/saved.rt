@@ -84,12 +84,8 @@ impl<'r, R: Rows> Filter<'r, R> {
             → IfSome result (λ filter. StandsAfter policy f p (state_of filter) bytes) }
     {
         let rows = plain.rows();
-        let Some(decoder) = Decoder::holding(saved.held.as_slice()) else {
-            return None;
-        };
-        let Some(counter) = Counter::at(saved.count) else {
-            return None;
-        };
+        let decoder = Decoder::holding(saved.held.as_slice())?;
+        let counter = Counter::at(saved.count)?;
         if saved.base > saved.offset {
             return None;
         }
@@ -137,20 +133,15 @@ fn do_counts_fit(saved: &Saved) -> bool
     if saved.starter.is_none() && (saved.chars > marks || saved.put > marks - saved.chars) {
         return false;
     }
-    is_counted(saved.form, marks, u64::from(saved.count))
-}
-
-/// Whether so many marks may be pending where so many non-starters are counted.
-fn is_counted(form: Form, marks: u64, count: u64) -> bool
-    ensures { IsTrue result ↔ IsCounted form marks count }
-{
-    match form {
+    let count = u64::from(saved.count);
+    match saved.form {
         Form::Nfc | Form::Nfd => marks <= count,
         Form::Nfkc | Form::Nfkd => marks == count,
     }
 }
 
-/// Whether it is a starter that is pending, and marks in order of class.
+/// Whether it is a starter that is pending, and marks in order of class, each of the class of its character, and none of
+/// class 0.
 fn is_pending<R: Rows>(rows: &R, saved: &Saved) -> bool
     ensures { IsTrue result ↔ IsPending (R.properties rows.now) saved.now }
 {
@@ -159,13 +150,7 @@ fn is_pending<R: Rows>(rows: &R, saved: &Saved) -> bool
     {
         return false;
     }
-    are_marks(rows, saved.marks.as_slice())
-}
-
-/// Whether they are in order of class, each of the class of its character, and none of class 0.
-fn are_marks<R: Rows>(rows: &R, marks: &[Mark]) -> bool
-    ensures { result ≡ are_marks (R.properties rows.now) 1 marks.now }
-{
+    let marks = saved.marks.as_slice();
     let mut least = 1;
     for mark in marks {
         if rows.class(mark.character) != mark.class || mark.class < least {

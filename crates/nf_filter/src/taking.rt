@@ -24,11 +24,10 @@ impl Counted {
     ghost use Rattle.std.specs.Prelude.{◌≡◌, ◌+◌, ◌<◌, ◌≤◌, Bool, false, ℕ, List, [], ◌∷◌, ◌++◌, length, chars, Err, IfErr, OnOk, MatchResult};
     ghost use Rattle.nf_forms.specs.declared.form.Form.{Form};
     ghost use Rattle.nf_normalizer.specs.Normalizer.{IsWithin as IsReady};
-    ghost use Rattle.nf_filter.specs.Block.{Start, block_state, Written};
-    ghost use Rattle.nf_filter.specs.Counted.{HasTaken, IsPlacedAt, IsWithin, settled_text};
+    ghost use Rattle.nf_filter.specs.Block.{Start, block_state};
+    ghost use Rattle.nf_filter.specs.Counted.{IsPlacedAt, IsWithin};
     ghost use Rattle.nf_filter.specs.Faults.{IsOfTaking};
-    ghost use Rattle.nf_filter.specs.Feeding.{TakesAllowed};
-    ghost use Rattle.nf_filter.specs.Policy.{allowed};
+    ghost use Rattle.nf_filter.specs.Feeding.{TakesAllowed, TakesAfter, TakesAsIs};
     ghost use Rattle.nf_filter.specs.Stepping.{HasStepped, Standing, StandsInFront};
 
     /// Takes a text. Where only assigned characters are allowed, the first other is refused.
@@ -46,10 +45,7 @@ impl Counted {
         ensures within { OnOk result (IsWithin self.new) }
         ensures chars { OnOk result (self.new.chars ≡ self.old.chars + length (chars text.now)) }
         ensures faults { IfErr result IsOfTaking }
-        ensures takes { let p = R.properties rows.now in
-            (f : Form) (place : List ℕ → ℕ) (x : List ℕ) (start : Start) → HasTaken f p self.old x → allowed assigned p x ≡ x
-            → IsPlacedAt place origin.entry.begin origin.entry.bytes.now 0 x (chars text.now) → Written start (block_state (S.state sink.old) block.old) (settled_text f p x)
-            → TakesAllowed assigned f p self.new start (block_state (S.state sink.new) block.new) place (x ++ chars text.now) result }
+        ensures takes { TakesAfter assigned (R.properties rows.now) self.old (block_state (S.state sink.old) block.old) self.new (block_state (S.state sink.new) block.new) origin.entry.begin origin.entry.bytes.now (chars text.now) result }
         ensures lender { (S.state sink.new).lender ≡ (S.state sink.old).lender }
     {
         let (front, rest) = split_allowed(rows, assigned, text);
@@ -78,10 +74,7 @@ impl Counted {
         ensures within { OnOk result (IsWithin self.new) }
         ensures chars { OnOk result (self.new.chars ≡ self.old.chars + length (chars text.now)) }
         ensures faults { IfErr result IsOfTaking }
-        ensures takes { let p = R.properties rows.now in
-            (f : Form) (place : List ℕ → ℕ) (x : List ℕ) (start : Start) → self.old.chars ≡ length x
-            → Standing f p self.old start (block_state (S.state sink.old) block.old) x (chars text.now) → IsPlacedAt place origin.entry.begin origin.entry.bytes.now 0 x (chars text.now)
-            → TakesAllowed false f p self.new start (block_state (S.state sink.new) block.new) place (x ++ chars text.now) result }
+        ensures takes { TakesAsIs (R.properties rows.now) self.old (block_state (S.state sink.old) block.old) self.new (block_state (S.state sink.new) block.new) origin.entry.begin origin.entry.bytes.now (chars text.now) result }
         ensures lender { (S.state sink.new).lender ≡ (S.state sink.old).lender }
     {
         let mut rest = text;

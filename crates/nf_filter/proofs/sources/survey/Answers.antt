@@ -1,5 +1,4 @@
 use Rattle.nf_filter.proofs.Common.{◌≡◌, ℕ, append-nil, ◌++◌, [], take, refl, sym, ap, ◌∙◌, arith, Err, Some, eq-eqb, ne_eqb, length-take, Consumes-kept, Consumes-trans, Ending, Whole, ending_of, TooLong, answer_at_end}
-use Rattle.nf_filter.proofs.FilterLemmas.{never}
 use Rattle.nf_filter.proofs.SurveysLemmas.{no_more}
 use Rattle.nf_filter.proofs.sources.survey.Goals as goal
 
@@ -12,8 +11,8 @@ pub returns-in-Err-clause-surveys : goal.returns-in-Err-clause-surveys
 returns-in-Err-clause-surveys g c = λ survey begun.
     let fed = c.loop-given.invariant.fed in
     let stands = g.met.S.Surveyor.stands _ survey fed.0 (fed.2 survey begun) in
-    no_more _ (Consumes-kept _ _ _ fed.0 fed.1 c.in-Err.ensures.kept) (λ end. never end c.in-Err.ensures.failed.1) stands.0
-    (omega arith) (λ e. cc) (λ end. never end c.in-Err.ensures.failed.1) (λ _. refl)
+    no_more _ (Consumes-kept _ _ _ fed.0 fed.1 c.in-Err.ensures.kept) (λ end. cc c.in-Err.ensures.failed.1) stands.0
+    (omega arith) (λ e. cc) (λ end. cc c.in-Err.ensures.failed.1) (λ _. refl)
 
 pub returns-then-given-eq0-clause-surveys : goal.returns-then-given-eq0-clause-surveys
 returns-then-given-eq0-clause-surveys g c = λ survey begun.
@@ -22,7 +21,7 @@ returns-then-given-eq0-clause-surveys g c = λ survey begun.
     let stands = g.met.S.Surveyor.stands _ survey fed.0 taken in
     let is = c.end.ensures.ends survey fed.0 taken in
     no_more _ (rw (append-nil fed.0) at (Consumes-trans _ _ _ fed.0 [] fed.1 (rw c.if-given-eq0.true at c.in-Ok.ensures.given))) (λ _. c.in-Ok.ensures.read_out c.if-given-eq0.true) stands.0
-    (omega arith) (λ e. not_long survey.base (survey.value fed.0) (ending_of fed.0) (sym is ∙ e)) (λ _. is) (never (c.in-Ok.ensures.end ∙ eq-eqb c.in-Ok.given 0 c.if-given-eq0.true))
+    (omega arith) (λ e. not_long survey.base (survey.value fed.0) (ending_of fed.0) (sym is ∙ e)) (λ _. is) (λ going. cc (c.in-Ok.ensures.end ∙ eq-eqb c.in-Ok.given 0 c.if-given-eq0.true))
 
 pub returns-in-Some-clause-surveys : goal.returns-in-Some-clause-surveys
 returns-in-Some-clause-surveys g c = λ survey begun.
@@ -37,11 +36,11 @@ returns-in-Some-clause-surveys g c = λ survey begun.
       last = piece;
       given = Consumes-trans _ _ _ fed.0 piece fed.1 c.in-Ok.ensures.given;
       few = omega (arith, length-take c.in-Ok.given c.get.new.buf);
-      read_out = λ end. never end before_end;
+      read_out = λ end. cc before_end;
       undecided = stands.0;
       too_long = (λ e. omega (arith, over.0 (ap Some e)), λ long. cc (over.1 (omega arith)));
       failed = λ e. absurd ((rw e at c.in-Some.ensures.faults).1);
-      ended = λ end. never end before_end;
+      ended = λ end. cc before_end;
       decided = λ _ short _. sym (c.in-Some.ensures.decides survey fed.0 taken (λ e. short (cc))).0;
     }
 
