@@ -1,5 +1,5 @@
 -- What a filter answers.
-use Rattle.nf_filter.proofs.Common.{cases_Bool, ◌≡◌, ℕ, ◌+◌, ◌<◌, ◌^◌, Bool, true, false, List, [], length, None, Err, ◌⊎◌, inl, inr, ⊎_elim, refl, sym, ap, ◌∙◌, arith, IsTrue, Result, option_map, length-append, ◌↔◌, Properties, Form, text_of, Fault, Write, State, Policy, SinkState, Puts, BreaksOff, as_is, is_usable, fault_in, unusable_decision, decided_in, base_of, offset_of, StandsAfter, HasReadTo}
+use Rattle.nf_filter.proofs.Common.{cases_Bool, ◌≡◌, ℕ, ◌+◌, ◌<◌, ◌^◌, List, [], length, None, Err, ◌⊎◌, inl, inr, ⊎_elim, refl, sym, ap, ◌∙◌, arith, IsTrue, Result, option_map, length-append, ◌↔◌, Properties, Form, text_of, Fault, Write, State, Policy, SinkState, Puts, BreaksOff, as_is, is_usable, fault_in, unusable_decision, decided_in, base_of, offset_of, StandsAfter, HasReadTo}
 
 -- the fault that a call told
 pub err_is : {T : Type 0} {fault k : Fault} → (let r : Result T Fault = Err fault in r ≡ Err k) → fault ≡ k

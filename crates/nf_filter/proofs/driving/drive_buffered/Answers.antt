@@ -1,4 +1,4 @@
-use Rattle.nf_filter.proofs.Common.{[], ◌++◌, ◌≡◌, true, refl, take, inr, ap, ◌∙◌, arith, rules, append-nil, eq-eqb, ne_eqb, length-take, Consumes-kept, Consumes-trans}
+use Rattle.nf_filter.proofs.Common.{[], ◌++◌, refl, take, inr, ap, ◌∙◌, arith, rules, append-nil, eq-eqb, ne_eqb, length-take, Consumes-kept, Consumes-trans}
 use Rattle.nf_filter.proofs.FilterLemmas.{err_is}
 use Rattle.nf_filter.proofs.FeedingLemmas.{HasFed-none, HasFed-more, Drives-failed, Drives-finished, Drives-refused}
 use Rattle.nf_filter.proofs.AgainLemmas.{drives_to_end, joins_pieces}
