@@ -1,4 +1,4 @@
-ghost use Rattle.std.specs.Prelude.{◌≡◌, ◌+◌, ◌<◌, ◌≤◌, ◌↔◌, ◌⊎◌, [], length, MatchResult, Ok, Err, IfErr, OnOk, IsTrue, ◌++◌, ℕ, List};
+ghost use Rattle.std.specs.Prelude.{◌≡◌, ◌+◌, ◌<◌, ◌≤◌, ◌⊎◌, [], length, MatchResult, Ok, Err, IfErr, OnOk, ◌++◌, ℕ, List};
 ghost use Rattle.nf_filter.specs.declared.fault.Fault.TheVariants.{Write as WriteFault};
 ghost use Rattle.nf_filter.specs.Writes.{Puts, BreaksOff};
 

@@ -1,6 +1,6 @@
 //! A filter as plain data, and made of that again.
 ghost use Rattle.std.specs.Prelude.{◌≡◌, ◌↔◌, IsTrue};
-ghost use Rattle.nf_filter.specs.Saved.{IsCounted, CountsFit, IsPending, are_marks};
+ghost use Rattle.nf_filter.specs.Saved.{CountsFit, IsPending};
 
 use crate::counted::Counted;
 use crate::filter::{Filter, State};
