@@ -1,5 +1,5 @@
 -- Where the reading of a vector file ends.
-use Rattle.nf_vectors.proofs.Common.{◌≡◌, ◌↔◌, ℕ, suc, ◌+◌, ◌-◌, ◌<◌, ◌≤◌, Bool, true, false, List, [], ◌∷◌, ◌++◌, length, take, drop, get_or, Option, Some, None, Result, Err, refl, sym, ap, arith, append_assoc, append-nil, ⊎_elim, if◌then◌else◌, lt-ltb, le-ltb, cases_lt, or-false, take-append-add, length-append, take_at, drop_more, take-append-drop, VectorFault, VectorKind, Size, Read, Memory, Reading, is_line_end, lines_of, Bad, judged, rows_from, names_part1_from, last_fault, first_fault, rows_in, StandsAfter, EndsLine, limit, block, lines_within, stop_of, Finds, RunsOut, take_all}
+use Rattle.nf_vectors.proofs.Common.{◌≡◌, ◌↔◌, ℕ, suc, ◌+◌, ◌-◌, ◌<◌, ◌≤◌, Bool, true, false, List, [], ◌∷◌, ◌++◌, length, take, drop, get_or, Option, Some, None, Result, Err, refl, sym, ap, arith, append_assoc, append-nil, ⊎_elim, if◌then◌else◌, le-ltb, cases_lt, or-false, take-append-add, length-append, take_at, drop_more, take-append-drop, VectorFault, VectorKind, Size, Read, Memory, Reading, is_line_end, lines_of, Bad, judged, rows_from, names_part1_from, last_fault, first_fault, rows_in, StandsAfter, EndsLine, limit, block, lines_within, stop_of, Finds, RunsOut, take_all}
 use Rattle.std.proofs.Common.{subst₂}
 use Rattle.std.proofs.lemmas.Grind.{common_steps}
 use Rattle.nf_vectors.proofs.StandingLemmas.{lines_of-ended, lines_of-last, first_fault-ended}
@@ -42,9 +42,6 @@ module _ {reading : Reading} {bytes : List ℕ} (stands : StandsAfter reading by
 
       pub all_parts : new.has_part1 ≡ names_part1_from 1 (lines_within bytes)
       all_parts = rw (within, ← append-nil bytes, stands.part1 [], lines_of-last reading.bytes.items stands.one_line, or-false, ends.has_part1) refl
-
-pub Tells-found : (bytes : List ℕ) (failed : Bool) (fault : VectorFault) → Finds bytes fault → first_fault 1 (stop_of bytes failed) (lines_within bytes) ≡ Some fault
-Tells-found bytes failed fault finds = finds (stop_of bytes failed) (λ past. rw (lt-ltb limit (length bytes) past) refl)
 
 -- the fault at one byte, whatever stands after it: at the limit, that it is one too many
 pub found_here : {reading : Reading} {bytes : List ℕ} {kind : VectorKind} {fault : VectorFault} → StandsAfter reading bytes → (b : ℕ) (rest all : List ℕ) → bytes ++ b ∷ rest ≡ all

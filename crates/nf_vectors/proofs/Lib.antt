@@ -2,7 +2,6 @@ pub mod Common
 pub mod TextLemmas
 pub mod WordLemmas
 pub mod PieceLemmas
-pub mod RowLemmas
 pub mod StandingLemmas
 pub mod EndingLemmas
 pub mod ComparisonLemmas

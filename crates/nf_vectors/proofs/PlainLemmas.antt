@@ -11,5 +11,5 @@ module _ (p : Properties) (c : ℕ) (plain : IsOwn p c 0) where
       let one = cluster-one p c plain.row (ap (λ k. k == 0) plain.class) in
       grind (arith, bytes_eq-Decides, plain, one.rows f, one.safe, one.composed, order-ordered p (c ∷ []) one.ordered)
 
-  pub unchanged-plain : is_unchanged p c ≡ true
-  unchanged-plain = simp held-one
+  pub plain_is_unchanged : is_unchanged p c ≡ true
+  plain_is_unchanged = simp held-one

@@ -36,10 +36,7 @@ pub(crate) fn judge(line: &[u8], text: &mut Vec<char>) -> Result<Line, VectorKin
         let is_part1 = before_gap(name) == b"Part1".as_slice();
         return Ok(Line::Part { is_part1 });
     }
-    match row(said, text) {
-        Ok(ends) => Ok(Line::Row(ends)),
-        Err(kind) => Err(kind),
-    }
+    Ok(Line::Row(row(said, text)?))
 }
 
 fn row(line: &[u8], text: &mut Vec<char>) -> Result<Ends, VectorKind>

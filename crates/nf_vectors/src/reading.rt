@@ -104,10 +104,7 @@ impl Reading {
         if byte == b'\n' {
             return self.end_line();
         }
-        match self.bytes.push(byte) {
-            Ok(()) => Ok(()),
-            Err(_) => Err(VectorKind::Memory),
-        }
+        self.bytes.push(byte).map_err(|_| VectorKind::Memory)
     }
 
     /// Judges the line.
@@ -127,10 +124,8 @@ impl Reading {
         ensures bad { IfErr result (λ kind. ¬ (kind ≡ VectorKind.Memory) → judged self.old.line self.old.bytes.items ≡ Bad kind) }
         ensures faults { IfErr result IsOfLine }
     {
-        match judge(unmarked(self.line, self.bytes.as_slice()), &mut self.text) {
-            Ok(held) => self.hold(held)?,
-            Err(kind) => return Err(kind),
-        }
+        let held = judge(unmarked(self.line, self.bytes.as_slice()), &mut self.text)?;
+        self.hold(held)?;
         self.line += 1;
         self.bytes.clear();
         Ok(())
@@ -159,10 +154,7 @@ impl Reading {
                     in_part1: self.in_part1,
                     columns,
                 };
-                match self.entries.push(entry) {
-                    Ok(()) => Ok(()),
-                    Err(_) => Err(VectorKind::Memory),
-                }
+                self.entries.push(entry).map_err(|_| VectorKind::Memory)
             }
         }
     }
@@ -201,8 +193,5 @@ fn unmarked(line: u32, bytes: &[u8]) -> &[u8]
     if line > 1 {
         return bytes;
     }
-    if let Some(rest) = bytes.strip_prefix(&[0xEF, 0xBB, 0xBF]) {
-        return rest;
-    }
-    bytes
+    bytes.strip_prefix(&[0xEF, 0xBB, 0xBF]).unwrap_or(bytes)
 }

@@ -46,22 +46,18 @@ impl Suite {
             if *is_listed {
                 continue;
             }
-            let unlisted = sweep.unlisted + 1;
-            let unchanged = is_unchanged(rows, c);
-            if unchanged {
-                sweep = Sweep { unlisted, ..sweep };
+            sweep.unlisted += 1;
+            if is_unchanged(rows, c) {
                 continue;
             }
-            sweep = Sweep {
-                unlisted,
-                failed: sweep.failed + 1,
-                first: sweep.first.or(Some(c)),
-            };
+            sweep.failed += 1;
+            sweep.first = sweep.first.or(Some(c));
         }
         Ok(sweep)
     }
 
     /// The set of the characters that Part 1 lists: for each code whether it is among them.
+    #[tactic(auto, using(std::proofs::lemmas::List::take_all), unfolding(crate::specs::SuiteView::rows_of))]
     fn listed(&self, alloc: Global) -> Result<Vec<bool>, AllocError>
         ensures size { IfOk result (λ listed. length listed.items ≡ 1114112) }
         ensures listed { IfOk result (λ listed. (c : ℕ) → c < 1114112 → slice_index_or listed.items c false ≡ is_listed (rows_of self.now) c) }
@@ -86,6 +82,7 @@ fn none_of(alloc: Global, codes: usize) -> Result<Vec<bool>, AllocError>
 }
 
 /// Whether no form changes the text of `c` alone.
+#[tactic(auto, using(crate::proofs::PlainLemmas::plain_is_unchanged))]
 fn is_unchanged<R: Rows>(rows: &R, c: char) -> bool
     ensures { result ≡ is_unchanged (R.properties rows.now) c }
 {

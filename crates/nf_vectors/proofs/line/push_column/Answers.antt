@@ -1,7 +1,6 @@
 use Rattle.nf_vectors.proofs.Common.{refl, arith, rules, tests, is_gap}
 use Rattle.std.proofs.iter.Serving.{serving}
 use Rattle.std.proofs.lemmas.Iterator.Splits.{YieldsList-from_slice_split}
-use Rattle.nf_vectors.proofs.RowLemmas.{refused_by}
 use Rattle.nf_vectors.proofs.WordLemmas.{skipped, pushed, refused, empty, held, few}
 use Rattle.nf_vectors.proofs.line.push_column.Goals as goal
 
@@ -28,8 +27,8 @@ loop-word-preserved c = record {
 
 pub returns-in_err-c-clause-column : goal.returns-in_err-c-clause-column
 returns-in_err-c-clause-column c =
-    refused_by _ _ _ _ c.from_residual.ensures
-    (λ _. refused c.loop-word.invariant.read c.loop-word.yielded_by c.next.ensures.steps c.in-Some.is c.is_empty.ensures c.if-is_empty.false c.in_err-c.field-0.0 c.in_err-c.ensures.value)
+    let bad = refused c.loop-word.invariant.read c.loop-word.yielded_by c.next.ensures.steps c.in-Some.is c.is_empty.ensures c.if-is_empty.false c.in_err-c.field-0.0 c.in_err-c.ensures.value in
+    grind (arith, c.from_residual.ensures, bad)
 
 pub returns-then-len-start-clause-column : goal.returns-then-len-start-clause-column
 returns-then-len-start-clause-column c = λ _. empty c.loop-word.invariant.read c.loop-word.yielded_by c.next.ensures.steps c.in-None.is (omega arith)

@@ -7,9 +7,9 @@ returns-clause-columns c = search (rules, AreWithin-append)
 
 pub returns-clause-ends : goal.returns-clause-ends
 returns-clause-ends c =
-    let grows = c.in-Ok.ensures.grows in
+    let grows = c.in_ok-held.ensures.grows in
     let old = c.args.self.now in
-    let ends = c.in_ok-hold-in-Ok.ensures.holds (judgement c.unmarked.result.now) c.in-Ok.ensures.judged in
+    let ends = c.in_ok-hold.ensures.holds (judgement c.unmarked.result.now) c.in_ok-held.ensures.judged in
     let is : judgement c.unmarked.result.now ≡ judged old.line old.bytes.items = sym c.unmarked.ensures.text ∙ ap (judged old.line) c.as_slice.ensures.value in
     record {
       rows = rw (← is, ends.rows, grows.1, rows_in-append old.text.items grows.0 old.entries.items c.requires.columns) refl;

@@ -1,5 +1,5 @@
-use Rattle.nf_vectors.proofs.Common.{refl, if_ok_if, ◌≡◌, ◌∙◌, ◌++◌, ◌≤◌, length, true, false, [], take, arith, append-nil, block, length-take-le, eq-eqb, ne_eqb}
-use Rattle.nf_vectors.proofs.EndingLemmas.{ends_at, Tells-found}
+use Rattle.nf_vectors.proofs.Common.{limit, lt-ltb, refl, if_ok_if, ◌≡◌, ◌∙◌, ◌++◌, ◌≤◌, length, true, false, [], take, arith, append-nil, block, length-take-le, eq-eqb, ne_eqb}
+use Rattle.nf_vectors.proofs.EndingLemmas.{ends_at}
 use Rattle.std.proofs.KnownBytes.{Consumes-kept, Consumes-trans}
 use Rattle.nf_vectors.proofs.suite.Suite.read.Goals as goal
 
@@ -28,7 +28,7 @@ returns-in-Err-take-clause-reads g c =
       bytes = read.0 ++ piece;
       given = Consumes-trans _ _ _ read.0 piece read.1 c.in-Ok.ensures.given;
       read_out = λ end. cc;
-      tells = λ sound. Tells-found (read.0 ++ piece) (g.I.Source.state c.get.new.self).is_failed c.in-Err-take.fault (finds sound);
+      tells = λ sound. finds sound _ (λ past. rw (lt-ltb limit (length (read.0 ++ piece)) past) refl);
       memory = rw unended (c.in-Err-take.ensures.memory read.0 read.2 short);
       end = tt;
       before_end = λ _ _ few sound stop. finds sound stop (λ past. absurd (omega arith));

@@ -16,8 +16,8 @@ loop-code-preserved-then-is_listed g c =
     let listed : is_listed (rows_of c.args.self.now) c.loop-code.code ≡ true = grind (arith, c.in-Ok.ensures.listed c.loop-code.code) in
     simp (sweep-more, scalar_in _ c.in-Some.ensures.cases, listed, add-zero, or_none) c.loop-code.invariant
 
-pub loop-code-preserved-then-unchanged : goal.loop-code-preserved-then-unchanged
-loop-code-preserved-then-unchanged g c =
+pub loop-code-preserved-then-is_unchanged : goal.loop-code-preserved-then-is_unchanged
+loop-code-preserved-then-is_unchanged g c =
     let listed : is_listed (rows_of c.args.self.now) c.loop-code.code ≡ false = grind (arith, c.in-Ok.ensures.listed c.loop-code.code) in
     let same : is_unchanged (g.R.Rows.properties c.args.rows.now) c.loop-code.code ≡ true = cc c.in-Some.ensures.value.1 in
     simp (sweep-more, scalar_in _ c.in-Some.ensures.cases, listed, same, add-zero, or_none) (ap (λ (s : Sweep). record s { unlisted = s.unlisted + 1 }) c.loop-code.invariant)
@@ -28,11 +28,11 @@ loop-code-preserved g c =
     let same : is_unchanged (g.R.Rows.properties c.args.rows.now) c.loop-code.code ≡ false = cc c.in-Some.ensures.value.1 in
     simp (sweep-more, scalar_in _ c.in-Some.ensures.cases, listed, same) (cc c.in-Some.ensures.value.1)
 
-pub overflow_add-unlisted : goal.overflow_add-unlisted
-overflow_add-unlisted g c = grind (arith, sweep-few (g.R.Rows.properties c.args.rows.now) (rows_of c.args.self.now) c.loop-code.code)
-
 pub overflow_add-sweep : goal.overflow_add-sweep
 overflow_add-sweep g c = grind (arith, sweep-few (g.R.Rows.properties c.args.rows.now) (rows_of c.args.self.now) c.loop-code.code)
+
+pub overflow_add-sweep-in-loop-code : goal.overflow_add-sweep-in-loop-code
+overflow_add-sweep-in-loop-code g c = grind (arith, sweep-few (g.R.Rows.properties c.args.rows.now) (rows_of c.args.self.now) c.loop-code.code)
 
 pub returns : goal.returns
 unfolding sweep_of
