@@ -1,7 +1,7 @@
 -- What a run shows: its parts put together, no fault of an unsound character where none of the data is one, and that what `convert`
 -- wrote to the end without a fault is not changed by a second run.
 use Rattle.nf_cmd.proofs.Common.{cases_Bool, ◌≡◌, ℕ, Bool, false, List, [], Option, Some, Result, Ok, Err, inl, inr, subst, ◌⊎◌, ⊎_elim, refl, IsTrue, OnOk, Appends-kept, Form, Convert, ConvertLines, Check, CheckForm, Measure, Test, arith, Keeps, Appends-nil, ErrorKind, DisplayHelp, Text, Request, line_of, Asks, IsRefusal, IsRefused}
-use Rattle.nf_cmd.specs.Answers.{Does, Answers, ComesOf, Devices, NeverRow}
+use Rattle.nf_cmd.specs.Answers.{Does, Answers, ComesOf, Devices}
 use Rattle.nf_cmd.specs.Lines.{status_of}
 use Rattle.nf_cmd.specs.declared.fault.Fault.{Fault}
 use Rattle.nf_filter.specs.Devices.{SinkState, SourceState}
@@ -25,7 +25,7 @@ use Rattle.nf_cmd.specs.declared.fault.Fault.TheVariants.{Row, Write}
 use Rattle.nf_cmd.specs.Fronts.{AppendsFront}
 use Rattle.nf_cmd.specs.Converts.{Ends, end_of, Runs}
 use Rattle.nf_cmd.specs.Checks.{ChecksForm}
-use Rattle.nf_cmd.specs.Again.{EachConvertsOnce}
+use Rattle.nf_cmd.specs.Again.{ConvertsOnce}
 
 -- status 2 is not that of memory
 pub refused_by : {words : List Text} {k : ErrorKind} (before after : Devices) {status : ℕ} → IsRefusal words k → ComesOf k before after status → status ≡ 2 → IsRefused words
@@ -43,12 +43,6 @@ pub help_answers : {k : ErrorKind} (before after : Devices) → DisplayHelp ≡ 
 unfolding line_of
 help_answers before after help same = rw (← help) (inr (inl (record { status_is = refl; line = ([], [], refl, rw same (Appends-nil before.err)) })))
 
--- what was asked for was done
-pub done_answers : {words : List Text} {request : Request} {before after : Devices} {status : ℕ} → NeverRow → Asks words request → (found : Result ℕ Fault)
-    → Does request before after found → status ≡ status_of found → AppendsFront before.err after.err (line_of found) → Answers words before after status
-done_answers never asks found does status_is line =
-    inr (inr (record { request = _; asks = asks; found = found; does = does; sound = never _ _ _ _ does; ends = record { status_is = status_is; line = line } }))
-
 -- what the library did, over devices of which only the bytes are told
 pub runs_from : {T : Type 0} {drives : SourceState → SourceState → SinkState → SinkState → Result T Found → Type 0} {coming left taken now : Option (List ℕ)} (source rest : SourceState) (old new : SinkState) {answer : Result T Found}
     → drives source rest old new answer → OnOk answer (IsTrue rest.is_at_end)
@@ -56,28 +50,20 @@ pub runs_from : {T : Type 0} {drives : SourceState → SourceState → SinkState
 runs_from source rest old new driven end input output unfailed =
     record { source = source; rest = rest; old = old; new = new; input_is = input; output_is = output; unfailed = unfailed; end = end; driven = driven }
 
--- ---- no character is unsound
-
-module _ (sound : AreSound ucd) (at : ℕ) where
-  -- by driving line by line
-  lines_row : {policy : Policy} {f : Form} {source rest : SourceState} {old new : SinkState} {answer : Result (Unit {0}) Found}
-      → DrivesLines 65536 policy f ucd source rest old new answer → ¬ (answer ≡ Err (found.Row at))
-  lines_row {policy} {rest = rest} drives row = ⊎_elim
-      (λ end. not_in_end ucd sound 0 at policy (bytes_of drives.taken) (grind (arith, drives.finished end (λ e. cc))))
-      (λ end. not_a_fault ucd sound 0 at policy (bytes_of drives.taken) (grind (arith, drives.stopped end (λ e. cc) (λ e. cc) (λ e. cc))))
-      (cases_Bool rest.is_at_end)
-
-  -- by checking a form
-  form_row : {coming left taken now : Option (List ℕ)} {ended : Result ℕ Fault} (f : Form) (assigned : Bool) → ChecksForm f assigned coming left taken now ended → ¬ (ended ≡ Err (Row at))
-  unfolding form_decision
-  form_row f assigned does row =
-      not_surveyed {most = 65536} {base = 0} {at = at} {decision = form_decision assigned f 0} {value = form_value f 0} (λ bytes e. grind (arith, not_a_fault ucd sound 0 at (under assigned) bytes)) does.surveyed.surveys (grind arith)
-
-pub never_row : DrivingRefusesNone → CheckingRefusesNone → MeasuringRefusesNone → AreSound ucd → NeverRow
+-- no character is unsound
+pub never_row : DrivingRefusesNone → CheckingRefusesNone → MeasuringRefusesNone → AreSound ucd
+    → (request : Request) (before after : Devices) (ended : Result ℕ Fault) → Does request before after ended → (at : ℕ) → ¬ (ended ≡ Err (Row at))
+unfolding form_decision
 never_row driving checking measuring sound (Convert form policy) before after ended does at row = driving _ _ _ _ _ _ _ _ _ _ _ sound does.runs.driven at (grind arith)
-never_row driving checking measuring sound (ConvertLines form policy) before after ended does at row = lines_row sound at does.runs.driven (grind arith)
+never_row driving checking measuring sound (ConvertLines form policy) before after ended does at row =
+    let told : does.answer ≡ Err (found.Row at) = grind arith in
+    let drives = does.runs.driven in
+    ⊎_elim (λ end. not_in_end ucd sound 0 at policy (bytes_of drives.taken) (grind (arith, drives.finished end (λ e. cc))))
+    (λ end. not_a_fault ucd sound 0 at policy (bytes_of drives.taken) (grind (arith, drives.stopped end (λ e. cc) (λ e. cc) (λ e. cc))))
+    (cases_Bool does.runs.rest.is_at_end)
 never_row driving checking measuring sound Check before after ended does at row = checking _ _ _ _ _ _ sound does.surveyed.surveys at (grind arith)
-never_row driving checking measuring sound (CheckForm form assigned) before after ended does at row = form_row sound at form assigned does row
+never_row driving checking measuring sound (CheckForm form assigned) before after ended does at row =
+    not_surveyed {most = 65536} {base = 0} {at = at} {decision = form_decision assigned form 0} {value = form_value form 0} (λ bytes e. grind (arith, not_a_fault ucd sound 0 at (under assigned) bytes)) does.surveyed.surveys (grind arith)
 never_row driving checking measuring sound Measure before after ended does at row = measuring _ _ _ _ _ _ sound does.surveyed.surveys at (grind arith)
 never_row driving checking measuring sound Test before after ended does at row = grind arith
 
@@ -113,8 +99,8 @@ module _ (law : FinishedStays) (f : Form) (policy : Policy) (once : ChangesOnce 
       by (Ok tally) is = (puts.out, puts.given, subst (StaysAsItIs f ucd) puts.after (law policy f ucd 0 (bytes_of driven.taken) tally once is))
       by (Err fault) is = absurd (grind (arith, driven.finished end (λ e. cc)))
 
-pub each_converts_once : FinishedStays → ((f : Form) → ChangesOnce f ucd) → EachConvertsOnce
-each_converts_once law once words before after status f policy done asked zero =
+pub converts_once : FinishedStays → ((f : Form) → ChangesOnce f ucd) → (words : List Text) (before after : Devices) (status : ℕ) → ConvertsOnce words before after status
+converts_once law once words before after status f policy done asked zero =
     let ok : done.found ≡ no_fault = grind arith in
     let does = rw ok at done.does in
     ⊎_elim (λ is. ends_once f (Drives 65536 policy f ucd 0 []) (whole_once law f policy (once f)) (rw is at does))

@@ -12,6 +12,3 @@ use Rattle.nf_cmd.specs.Answers.{Devices, IsDone}
 -- changes nothing of what the output took
 abbrev pub ConvertsOnce : List Text → Devices → Devices → ℕ → Type 0
 ConvertsOnce words before after status = (f : Form) (policy : Policy) (done : IsDone words before after status) → (done.request ≡ Convert f policy) ⊎ (done.request ≡ ConvertLines f policy) → status ≡ 0 → AddsWhatStays f ucd before.out after.out
-
-abbrev pub EachConvertsOnce : Type 0
-EachConvertsOnce = (words : List Text) (before after : Devices) (status : ℕ) → ConvertsOnce words before after status

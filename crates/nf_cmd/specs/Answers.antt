@@ -64,10 +64,6 @@ Does (CheckForm form assigned) before after found = ChecksForm form assigned bef
 Does Measure before after found = Measures ucd before.input after.input before.out after.out found
 Does Test before after found = Tests ucd before.input after.input before.out after.out found
 
--- no subcommand ends because a character is unsound
-abbrev pub NeverRow : Type 0
-NeverRow = (request : Request) (before after : Devices) (found : Result ℕ Fault) → Does request before after found → (at : ℕ) → ¬ (found ≡ Err (Row at))
-
 -- the words ask for this, and it was done
 pub record IsDone (words : List Text) (before after : Devices) (status : ℕ) : Type 0 where
   pub request : Request

@@ -3,10 +3,7 @@ ghost use Rattle.std.specs.Prelude.{◌≡◌, ◌⊎◌, ◌≤◌, length};
 ghost use Rattle.std.specs.Io.KnownBytes.{Appends};
 ghost use Rattle.nf_forms.specs.Ucd.{ucd};
 ghost use Rattle.nf_filter.specs.declared.fault.Fault.TheVariants.{Spent};
-ghost use Rattle.nf_filter.specs.Checks.{check_decision, no_place};
-ghost use Rattle.nf_normalized.specs.Change.{form_decision, form_value};
 ghost use Rattle.nf_cmd.specs.Fronts.{AppendsFront};
-ghost use Rattle.nf_cmd.specs.Surveys.{Surveyed};
 ghost use Rattle.nf_cmd.specs.Checks.{Checks, ChecksForm, check_end, check_line};
 
 use crate::BUFFER;
@@ -24,7 +21,9 @@ use std::io::{Read, Write};
 pub(crate) fn check<I: Read, O: Write>(input: &mut I, out: &mut O) -> Result<u8, Fault>
     ensures { Checks ucd (I.remaining input.old) (I.remaining input.new) (O.contents out.old) (O.contents out.new) result }
 {
-    let answer = answer(input);
+    let mut source = LentReader::new(input);
+    let mut buffer = [0; BUFFER];
+    let answer = check_buffered(&Ucd, 0, &mut source, &mut buffer);
     tell("stream-safe", answer, out)
 }
 
@@ -37,32 +36,10 @@ pub(crate) fn check_form<I: Read, O: Write>(
 ) -> Result<u8, Fault>
     ensures { ChecksForm form assigned (I.remaining input.old) (I.remaining input.new) (O.contents out.old) (O.contents out.new) result }
 {
-    let answer = form_answer(form, assigned, input);
+    let mut source = LentReader::new(input);
+    let mut buffer = [0; BUFFER];
+    let answer = check_form_buffered(form, assigned, 0, &mut source, &mut buffer);
     tell(form_name(form), answer, out)
-}
-
-// What the library answers over the reader.
-fn answer<I: Read>(input: &mut I) -> Result<Option<Place>, nf_filter::Fault>
-    ensures unspent { ¬ (result ≡ Err Spent) }
-    ensures surveyed { Surveyed (check_decision ucd 0) no_place (I.remaining input.old) (I.remaining input.new) result }
-{
-    let mut source = LentReader::new(input);
-    let mut buffer = [0; BUFFER];
-    check_buffered(&Ucd, 0, &mut source, &mut buffer)
-}
-
-// The same of a form.
-fn form_answer<I: Read>(
-    form: Form,
-    assigned: bool,
-    input: &mut I,
-) -> Result<Option<Place>, nf_filter::Fault>
-    ensures unspent { ¬ (result ≡ Err Spent) }
-    ensures surveyed { Surveyed (form_decision assigned form 0) (form_value form 0) (I.remaining input.old) (I.remaining input.new) result }
-{
-    let mut source = LentReader::new(input);
-    let mut buffer = [0; BUFFER];
-    check_form_buffered(form, assigned, 0, &mut source, &mut buffer)
 }
 
 // Writes the line of that answer, and ends by it.

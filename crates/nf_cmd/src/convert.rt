@@ -1,15 +1,15 @@
 //! `convert`.
-ghost use Rattle.std.specs.Prelude.{◌≡◌, ◌⊎◌, []};
+ghost use Rattle.std.specs.Prelude.{◌≡◌, ◌⊎◌};
 ghost use Rattle.std.specs.Io.KnownBytes.{Keeps};
 ghost use Rattle.nf_forms.specs.Ucd.{ucd};
 ghost use Rattle.nf_filter.specs.declared.fault.Fault.TheVariants.{Spent};
-ghost use Rattle.nf_filter.specs.Drives.{Drives};
-ghost use Rattle.nf_cmd.specs.Converts.{Converts, Runs, end_of};
+ghost use Rattle.nf_cmd.specs.Converts.{Converts, ConvertsLines, end_of};
 
 use crate::BUFFER;
 use crate::fault::Fault;
 use crate::writing::flush;
-use nf_filter::{Filter, LentReader, LentWriter, Policy, Tally, drive_buffered};
+use nf_filter::{Filter, LentReader, LentWriter, Policy, drive_buffered};
+use nf_lines::drive_lines;
 use nf_row::{Form, Ucd};
 use std::io::{Read, Write};
 
@@ -23,12 +23,32 @@ pub(crate) fn convert<I: Read, O: Write>(
 ) -> Result<u8, Fault>
     ensures { Converts form policy ucd (I.remaining input.old) (I.remaining input.new) (O.contents out.old) (O.contents out.new) result }
 {
-    let answer = filter(form, policy, input, out);
+    let filter = Filter::quickest(&Ucd, form, 0).policy(policy);
+    let mut source = LentReader::new(input);
+    let mut sink = LentWriter::new(out);
+    let mut buffer = [0; BUFFER];
+    let answer = drive_buffered(filter, &mut source, &mut sink, &mut buffer);
     ended(answer, out)
 }
 
-/// Flushes, and ends by the library's answer. A writer that failed is not touched again.
-pub(crate) fn ended<T: Copy, O: Write>(
+/// The same with `--line-buffered`: each line is written once its line feed was read.
+pub(crate) fn convert_lines<I: Read, O: Write>(
+    form: Form,
+    policy: Policy,
+    input: &mut I,
+    out: &mut O,
+) -> Result<u8, Fault>
+    ensures { ConvertsLines form policy ucd (I.remaining input.old) (I.remaining input.new) (O.contents out.old) (O.contents out.new) result }
+{
+    let mut source = LentReader::new(input);
+    let mut sink = LentWriter::new(out);
+    let mut buffer = [0; BUFFER];
+    let answer = drive_lines(form, policy, &mut source, &mut sink, &mut buffer);
+    ended(answer, out)
+}
+
+// Flushes, and ends by the library's answer. A writer that failed is not touched again.
+fn ended<T: Copy, O: Write>(
     answer: Result<T, nf_filter::Fault>,
     out: &mut O,
 ) -> Result<u8, Fault>
@@ -45,25 +65,4 @@ pub(crate) fn ended<T: Copy, O: Write>(
         Ok(()) => found,
         Err(_) => Err(Fault::Write),
     }
-}
-
-// Lets the library go over the reader and the writer.
-fn filter<I: Read, O: Write>(
-    form: Form,
-    policy: Policy,
-    input: &mut I,
-    out: &mut O,
-) -> Result<Tally, nf_filter::Fault>
-    ensures unspent { ¬ (result ≡ Err Spent) }
-    ensures runs { Runs (Drives 65536 policy form ucd 0 []) (I.remaining input.old) (I.remaining input.new) (O.contents out.old) (O.contents out.new) result }
-{
-    let mut source = LentReader::new(input);
-    let mut sink = LentWriter::new(out);
-    let mut buffer = [0; BUFFER];
-    drive_buffered(
-        Filter::quickest(&Ucd, form, 0).policy(policy),
-        &mut source,
-        &mut sink,
-        &mut buffer,
-    )
 }

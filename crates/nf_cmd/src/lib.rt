@@ -2,7 +2,6 @@
 //! is wrong with input that it refuses.
 #![tactic(auto)]
 
-mod by_lines;
 mod check;
 mod convert;
 mod fault;

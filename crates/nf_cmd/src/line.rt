@@ -4,7 +4,7 @@ ghost use Rattle.clap.specs.Words.{app_of, found_of, kind_of, new_app, rows_of, 
 ghost use Rattle.clap.specs.declared.builder.command.Command.TheViews.{out-Command};
 ghost use Rattle.clap.specs.Walk.{texts};
 ghost use Rattle.nf_cmd.specs.Line.{Asks, IsLine, IsRefusal, check, convert, flag_rule, form_named, form_rule, is_set};
-ghost use Rattle.nf_cmd.specs.Line.{checking, conversion, policy_of, request_by, request_of};
+ghost use Rattle.nf_cmd.specs.Line.{request_by, request_of};
 
 use crate::help;
 use clap::error::ErrorKind;
@@ -162,6 +162,7 @@ fn plain<'w>(
         .after_help(notes)
 }
 
+#[tactic(auto, unfolding(crate::specs::Line::form_rule))]
 fn form<'w>(alloc: Global, names: &'w [&'w str], required: bool, about: &'w str) -> Arg<'w>
     ensures rule { rule_of result ≡ form_rule names.entry required }
     ensures local { result.global ≡ false }
@@ -174,6 +175,7 @@ fn form<'w>(alloc: Global, names: &'w [&'w str], required: bool, about: &'w str)
         .help(about)
 }
 
+#[tactic(auto, unfolding(crate::specs::Line::flag_rule))]
 fn flag<'w>(alloc: Global, name: &'w str, about: &'w str) -> Arg<'w>
     ensures rule { rule_of result ≡ flag_rule name.now }
     ensures local { result.global ≡ false }
@@ -189,40 +191,35 @@ fn requested(matches: &ArgMatches<'_>) -> Option<Request>
     ensures { result ≡ request_of (subcommand_rows_of matches.now) }
 {
     let (name, found) = matches.subcommand()?;
+    let policy = Policy {
+        replace: is_set(found, "replace"),
+        assigned: is_set(found, "assigned"),
+    };
     let lines = is_set(found, "line-buffered");
-    request_by(name, found.get_str("form"), policy(found), lines)
+    request_by(name, found.get_str("form"), policy, lines)
 }
 
 fn request_by(name: &str, form: Option<&str>, policy: Policy, lines: bool) -> Option<Request>
     ensures { result ≡ request_by name.now (option_map (λ s. s.now) form.entry) policy lines }
 {
     match name {
-        "convert" => Some(conversion(form_named(form?)?, policy, lines)),
-        "check" => checking(form, policy.assigned),
+        "convert" => {
+            let form = form_named(form?)?;
+            Some(if lines {
+                Request::ConvertLines(form, policy)
+            } else {
+                Request::Convert(form, policy)
+            })
+        }
+        "check" => match form {
+            Some(name) => Some(Request::CheckForm(form_named(name)?, policy.assigned)),
+            // `check --assigned` asks for nothing without a form.
+            None if policy.assigned => None,
+            None => Some(Request::Check),
+        },
         "measure" => Some(Request::Measure),
         "test" => Some(Request::Test),
         _ => None,
-    }
-}
-
-fn conversion(form: Form, policy: Policy, lines: bool) -> Request
-    ensures { result ≡ conversion form policy lines }
-{
-    if lines {
-        Request::ConvertLines(form, policy)
-    } else {
-        Request::Convert(form, policy)
-    }
-}
-
-// `check --assigned` asks for nothing without a form.
-fn checking(form: Option<&str>, assigned: bool) -> Option<Request>
-    ensures { result ≡ checking (option_map (λ s. s.now) form.entry) assigned }
-{
-    match form {
-        Some(name) => Some(Request::CheckForm(form_named(name)?, assigned)),
-        None if assigned => None,
-        None => Some(Request::Check),
     }
 }
 
@@ -235,15 +232,6 @@ fn form_named(name: &str) -> Option<Form>
         "nfkc" => Some(Form::Nfkc),
         "nfkd" => Some(Form::Nfkd),
         _ => None,
-    }
-}
-
-fn policy(found: &ArgMatches<'_>) -> Policy
-    ensures { result ≡ policy_of (rows_of (found_of found.now)) }
-{
-    Policy {
-        replace: is_set(found, "replace"),
-        assigned: is_set(found, "assigned"),
     }
 }
 

@@ -1,9 +1,6 @@
 //! `measure`.
-ghost use Rattle.std.specs.Prelude.{◌≡◌, IfErr};
+ghost use Rattle.std.specs.Prelude.{◌≡◌};
 ghost use Rattle.nf_forms.specs.Ucd.{ucd};
-ghost use Rattle.nf_filter.specs.Surveys.{IsOfSurvey};
-ghost use Rattle.nf_filter.specs.Measures.{measure_decision, text_measure};
-ghost use Rattle.nf_cmd.specs.Surveys.{Surveyed};
 ghost use Rattle.nf_cmd.specs.Measures.{Measures, measure_lines};
 
 use crate::BUFFER;
@@ -19,7 +16,9 @@ use std::io::{Read, Write};
 pub(crate) fn measure<I: Read, O: Write>(input: &mut I, out: &mut O) -> Result<u8, Fault>
     ensures { Measures ucd (I.remaining input.old) (I.remaining input.new) (O.contents out.old) (O.contents out.new) result }
 {
-    let answer = answer(input);
+    let mut source = LentReader::new(input);
+    let mut buffer = [0; BUFFER];
+    let answer = measure_buffered(&Ucd, 0, &mut source, &mut buffer);
     if write_whole(out, lines(answer).as_slice()).is_err() {
         return Err(Fault::Write);
     }
@@ -27,16 +26,6 @@ pub(crate) fn measure<I: Read, O: Write>(input: &mut I, out: &mut O) -> Result<u
         Ok(_) => Ok(0),
         Err(fault) => Err(Fault::told(fault)),
     }
-}
-
-// What the library answers over the reader.
-fn answer<I: Read>(input: &mut I) -> Result<Measure, nf_filter::Fault>
-    ensures faults { IfErr result IsOfSurvey }
-    ensures surveyed { Surveyed (measure_decision ucd 0) (text_measure ucd) (I.remaining input.old) (I.remaining input.new) result }
-{
-    let mut source = LentReader::new(input);
-    let mut buffer = [0; BUFFER];
-    measure_buffered(&Ucd, 0, &mut source, &mut buffer)
 }
 
 // The lines that say so, and none where the input was refused.

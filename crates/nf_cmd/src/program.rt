@@ -4,13 +4,12 @@ ghost use Rattle.clap.specs.Values.{kind_of};
 ghost use Rattle.clap.specs.Walk.{texts};
 ghost use Rattle.nf_cmd.specs.Line.{IsRefused as Refused};
 ghost use Rattle.nf_cmd.specs.Lines.{line_of, status_of};
-ghost use Rattle.nf_cmd.specs.Answers.{Answers, ComesOf, Does, NeverRow};
-ghost use Rattle.nf_cmd.specs.Again.{ConvertsOnce, EachConvertsOnce};
+ghost use Rattle.nf_cmd.specs.Answers.{Answers, ComesOf, Does};
+ghost use Rattle.nf_cmd.specs.Again.{ConvertsOnce};
 ghost use Rattle.nf_cmd.specs.Fronts.{AppendsFront};
 
-use crate::by_lines::convert_lines;
 use crate::check::{check, check_form};
-use crate::convert::convert;
+use crate::convert::{convert, convert_lines};
 use crate::fault::Fault;
 use crate::line::{Request, parse};
 use crate::measure::measure;
@@ -52,8 +51,10 @@ pub fn command<'w, I: Read, O: Write, E: Write>(
         (record { input = I.remaining input.new; out = O.contents out.new; err = E.contents err.new })
         result }
 {
-    no_character_is_refused();
-    what_was_converted_stays();
+    every_character_is_sound();
+    no_sound_character_is_refused();
+    each_form_changes_a_text_once();
+    what_was_finished_stays();
     match parse(alloc, words) {
         Ok(request) => report(perform(alloc, request, input, out), err),
         Err(error) => refuse(alloc, &error, out, err),
@@ -80,22 +81,6 @@ fn perform<I: Read, O: Write>(
         Request::Measure => measure(input, out),
         Request::Test => test(alloc, input, out),
     }
-}
-
-// No character of Unicode's data is unsound.
-fn no_character_is_refused()
-    ensures { NeverRow }
-{
-    every_character_is_sound();
-    no_sound_character_is_refused();
-}
-
-// What `convert` wrote without a fault is not changed by a second run.
-fn what_was_converted_stays()
-    ensures { EachConvertsOnce }
-{
-    each_form_changes_a_text_once();
-    what_was_finished_stays();
 }
 
 // Help goes to the output, and a mistake in the words to standard error.

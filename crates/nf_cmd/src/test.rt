@@ -1,7 +1,7 @@
 //! `test`.
 ghost use Rattle.std.specs.Prelude.{◌≡◌, ◌+◌, ◌≤◌, ◌++◌, length};
 ghost use Rattle.nf_forms.specs.Ucd.{ucd};
-ghost use Rattle.nf_cmd.specs.Tests.{Tests, Reads, Finds, finding_of, finding_lines, finding_end, column_end, failure_lines, sweep_lines, first_lines};
+ghost use Rattle.nf_cmd.specs.Tests.{Tests, Finds, finding_of, finding_lines, finding_end, column_end, failure_lines, sweep_lines, first_lines};
 
 use crate::fault::Fault;
 use crate::lines::{Lines, form_name};
@@ -29,20 +29,13 @@ pub(crate) fn test<I: Read, O: Write>(
 ) -> Result<u8, Fault>
     ensures { Tests ucd (I.remaining input.old) (I.remaining input.new) (O.contents out.old) (O.contents out.new) result }
 {
-    let suite = read(alloc, input);
+    let mut source = LentReader::new(input);
+    let suite = Suite::read(alloc, &mut source);
     let finding = find(alloc, suite);
     if write_whole(out, lines(finding).as_slice()).is_err() {
         return Err(Fault::Write);
     }
     end(finding)
-}
-
-// Reads the file.
-fn read<I: Read>(alloc: Global, input: &mut I) -> Result<Suite, VectorFault>
-    ensures { Reads (I.remaining input.old) (I.remaining input.new) result }
-{
-    let mut source = LentReader::new(input);
-    Suite::read(alloc, &mut source)
 }
 
 // What comes of the file that was read.

@@ -13,5 +13,5 @@ returns c =
     let found = c.in_ok-name.found.now in
     let subcommand = rows_named _ c.in_ok-name.name.now (rows_of (found_of found)) c.in_ok-name.ensures.name c.in_ok-name.ensures.rows in
     let form = c.get_str.ensures ∙ first_value-rows (found_of found) (codes "form") in
-    c.request_by.ensures ∙ (λ i. request_by c.in_ok-name.name.now (form i) (c.policy.ensures i) (c.is_set-lines.ensures i))
+    c.request_by.ensures ∙ (λ i. request_by c.in_ok-name.name.now (form i) (record { replace = c.is_set.ensures i; assigned = c.is_set-2.ensures i }) (c.is_set-lines.ensures i))
     ∙ sym (ap request_of subcommand)
