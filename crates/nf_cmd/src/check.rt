@@ -54,9 +54,7 @@ fn tell<O: Write>(
     ensures output { ¬ (result ≡ Err Fault.Write) → Appends (O.contents out.old) (O.contents out.new) (check_line so.now answer) }
     ensures found { (Some result ≡ check_end answer) ⊎ (result ≡ Err Fault.Write) }
 {
-    if write_whole(out, lines(so, answer).as_slice()).is_err() {
-        return Err(Fault::Write);
-    }
+    write_whole(out, lines(so, answer).as_slice())?;
     match answer {
         Ok(None) => Ok(0),
         Ok(Some(_)) => Ok(1),

@@ -61,8 +61,6 @@ fn ended<T: Copy, O: Write>(
         Err(fault) => Err(Fault::told(fault)),
         Ok(_) => Ok(0),
     };
-    match flush(out) {
-        Ok(()) => found,
-        Err(_) => Err(Fault::Write),
-    }
+    flush(out)?;
+    found
 }

@@ -19,9 +19,7 @@ pub(crate) fn measure<I: Read, O: Write>(input: &mut I, out: &mut O) -> Result<u
     let mut source = LentReader::new(input);
     let mut buffer = [0; BUFFER];
     let answer = measure_buffered(&Ucd, 0, &mut source, &mut buffer);
-    if write_whole(out, lines(answer).as_slice()).is_err() {
-        return Err(Fault::Write);
-    }
+    write_whole(out, lines(answer).as_slice())?;
     match answer {
         Ok(_) => Ok(0),
         Err(fault) => Err(Fault::told(fault)),

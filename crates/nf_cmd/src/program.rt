@@ -102,7 +102,7 @@ fn refuse<O: Write, E: Write>(alloc: Global, error: &Error, out: &mut O, err: &m
     }
     match write_whole(out, text.as_bytes()) {
         Ok(()) => 0,
-        Err(_) => report(Err(Fault::Write), err),
+        Err(fault) => report(Err(fault), err),
     }
 }
 

@@ -32,9 +32,7 @@ pub(crate) fn test<I: Read, O: Write>(
     let mut source = LentReader::new(input);
     let suite = Suite::read(alloc, &mut source);
     let finding = find(alloc, suite);
-    if write_whole(out, lines(finding).as_slice()).is_err() {
-        return Err(Fault::Write);
-    }
+    write_whole(out, lines(finding).as_slice())?;
     end(finding)
 }
 
