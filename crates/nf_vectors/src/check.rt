@@ -87,10 +87,7 @@ fn verdict<R: Rows>(
     if is_skipped(rows, columns) {
         return Ok(Verdict::Skipped);
     }
-    match encoded.encode(columns) {
-        Ok(()) => {}
-        Err(_) => return Err(Memory),
-    }
+    encoded.encode(columns).map_err(|_| Memory)?;
     match failure(rows, line, encoded) {
         None => Ok(Verdict::Passed),
         Some(failure) => Ok(Verdict::Failed(failure)),

@@ -14,10 +14,8 @@ pub(crate) fn holds<R: Rows>(rows: &R, form: Form, text: &str, expected: &str) -
 {
     laws::read_back();
     let mut sink = Comparing::new(expected.as_bytes(), &[]);
-    match convert(rows, form, text.as_bytes(), &mut sink) {
-        Ok(_) => sink.is_met(),
-        Err(_) => false,
-    }
+    let is_taken = convert(rows, form, text.as_bytes(), &mut sink).is_ok();
+    is_taken & sink.is_met()
 }
 
 /// Whether the characters of the column before any unsound one leave the Stream-Safe Text Format (UAX #15, section 13).

@@ -170,16 +170,10 @@ impl Reading {
         if let Err(kind) = reading.end_line() {
             return Err(reading.fault(kind));
         }
-        let Reading {
-            text,
-            entries,
-            has_part1,
-            ..
-        } = reading;
         Ok(Suite {
-            text,
-            entries,
-            has_part1,
+            text: reading.text,
+            entries: reading.entries,
+            has_part1: reading.has_part1,
         })
     }
 }
