@@ -1,8 +1,7 @@
 -- What a run shows: its parts put together, no fault of an unsound character where none of the data is one, and that what `convert`
 -- wrote to the end without a fault is not changed by a second run.
-use Rattle.nf_cmd.proofs.Common.{cases_Bool, ◌≡◌, ℕ, Bool, false, List, [], Option, Some, Result, Ok, Err, inl, inr, subst, ◌⊎◌, ⊎_elim, refl, IsTrue, OnOk, Appends-kept, Form, Convert, ConvertLines, Check, CheckForm, Measure, Test, arith, Keeps, Appends-nil, ErrorKind, DisplayHelp, Text, Request, line_of, Asks, IsRefusal, IsRefused}
+use Rattle.nf_cmd.proofs.Common.{cases_Bool, ◌≡◌, ℕ, false, List, [], Option, Some, Result, Ok, Err, inl, inr, subst, ◌⊎◌, ⊎_elim, refl, IsTrue, OnOk, Appends-kept, Form, Convert, ConvertLines, Check, CheckForm, Measure, Test, arith, Keeps, Appends-nil, ErrorKind, DisplayHelp, Text, Request, line_of, IsRefusal, IsRefused}
 use Rattle.nf_cmd.specs.Answers.{Does, Answers, ComesOf, Devices}
-use Rattle.nf_cmd.specs.Lines.{status_of}
 use Rattle.nf_cmd.specs.declared.fault.Fault.{Fault}
 use Rattle.nf_filter.specs.Devices.{SinkState, SourceState}
 use Rattle.nf_filter.specs.Drives.{Drives}
@@ -22,9 +21,7 @@ use Rattle.nf_filter.proofs.AgainLemmas.{drives_to_end, adds_what_stays}
 use Rattle.nf_filter.proofs.SoundnessLemmas.{not_a_fault, not_in_end, not_surveyed}
 use Rattle.nf_normalized.specs.Change.{form_decision, form_value, under}
 use Rattle.nf_cmd.specs.declared.fault.Fault.TheVariants.{Row, Write}
-use Rattle.nf_cmd.specs.Fronts.{AppendsFront}
 use Rattle.nf_cmd.specs.Converts.{Ends, end_of, Runs}
-use Rattle.nf_cmd.specs.Checks.{ChecksForm}
 use Rattle.nf_cmd.specs.Again.{ConvertsOnce}
 
 -- status 2 is not that of memory

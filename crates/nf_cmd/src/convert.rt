@@ -48,10 +48,7 @@ pub(crate) fn convert_lines<I: Read, O: Write>(
 }
 
 // Flushes, and ends by the library's answer. A writer that failed is not touched again.
-fn ended<T: Copy, O: Write>(
-    answer: Result<T, nf_filter::Fault>,
-    out: &mut O,
-) -> Result<u8, Fault>
+fn ended<T: Copy, O: Write>(answer: Result<T, nf_filter::Fault>, out: &mut O) -> Result<u8, Fault>
     requires { ¬ (answer ≡ Err Spent) }
     ensures flushed { Keeps (O.contents out.old) (O.contents out.new) }
     ensures found { (Some result ≡ end_of answer) ⊎ (result ≡ Err Fault.Write) }

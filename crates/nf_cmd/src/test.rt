@@ -8,7 +8,7 @@ use crate::lines::{Lines, form_name};
 use crate::writing::write_whole;
 use nf_filter::LentReader;
 use nf_row::Ucd;
-use nf_vectors::{Failure, Memory, Report, Suite, Sweep, VectorFault};
+use nf_vectors::{Failure, Report, Suite, Sweep, VectorFault};
 use std::alloc::Global;
 use std::io::{Read, Write};
 
@@ -40,26 +40,19 @@ pub(crate) fn test<I: Read, O: Write>(
 fn find(alloc: Global, suite: Result<Suite, VectorFault>) -> Result<Finding, Fault>
     ensures { Finds ucd suite result }
 {
-    let suite = match suite {
-        Ok(suite) => suite,
-        Err(fault) => return Err(Fault::told_of_file(fault)),
-    };
-    let Ok(report) = suite.check(alloc, &Ucd) else {
-        return Err(Fault::Memory);
-    };
+    let suite = suite.map_err(|fault| Fault::told_of_file(fault))?;
+    let report = suite.check(alloc, &Ucd).map_err(|_| Fault::Memory)?;
     if !suite.has_part1() {
         return Ok(Finding {
             report,
             sweep: None,
         });
     }
-    match suite.sweep(alloc, &Ucd) {
-        Ok(sweep) => Ok(Finding {
-            report,
-            sweep: Some(sweep),
-        }),
-        Err(Memory) => Err(Fault::Memory),
-    }
+    let sweep = suite.sweep(alloc, &Ucd).map_err(|_| Fault::Memory)?;
+    Ok(Finding {
+        report,
+        sweep: Some(sweep),
+    })
 }
 
 // The end of the run.
