@@ -1,5 +1,5 @@
 -- The names that most of these proofs cite, passed on from one place. Declares nothing.
-pub use Rattle.std.proofs.Common.{rules, ◌≡◌, ◌∙◌, length, ◌++◌, ℕ, refl, List, ap, sym, ◌∷◌, arith, ◌+◌, [], false, ◌<◌, ◌≢◌, ◌≤◌, append_assoc, take, true, append-nil, eq-eqb, Bool, get_or, map, ◌&&◌, ◌||◌, nat_le, ◌*◌, ◌-◌}
+pub use Rattle.std.proofs.Common.{rules, ◌≡◌, ◌∙◌, length, ◌++◌, ℕ, refl, List, ap, sym, ◌∷◌, arith, ◌+◌, [], false, ◌<◌, ◌≢◌, ◌≤◌, append_assoc, take, take_at, true, append-nil, eq-eqb, Bool, get_or, map, ◌&&◌, ◌||◌, nat_le, ◌*◌, ◌-◌}
 pub use Rattle.std.specs.Prelude.{IsTrue, IsUtf8, encode_utf8, encode_utf8_all, chars}
 pub use Rattle.std.proofs.lemmas.Bool.{ne_eqb, or_parts, cond-true, leb-true}
 pub use Rattle.std.proofs.lemmas.Bool.Decides.{nat_tests}

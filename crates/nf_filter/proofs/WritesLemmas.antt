@@ -70,3 +70,8 @@ WritesTo-written other written = record { broken = λ e. absurd (other e); writt
 pub Broken-extends : (start : Start) {new : SinkState} {a b : List ℕ} → Extends a b → BreaksOff start.sink new start.before (start.ahead ++ a)
     → BreaksOff start.sink new start.before (start.ahead ++ b)
 Broken-extends start {a = a} more broken = BreaksOff-extends (record { more = more.more; text = simp (more.text, append_assoc) }) broken
+
+-- what is kept grows
+pub Written-more : {start : Start} {sink : SinkState} {kept grown w : List ℕ} (more : List ℕ) → grown ≡ kept ++ more
+    → Written start (record { sink = sink; kept = kept }) w → Written start (record { sink = sink; kept = grown }) (w ++ more)
+Written-more {start} {w = w} more grows written = record { given = written.given; puts = written.puts; text = rw (← append_assoc start.ahead w more, written.text, append_assoc, grows) refl }

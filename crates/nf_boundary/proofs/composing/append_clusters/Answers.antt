@@ -1,4 +1,4 @@
-use Rattle.nf_boundary.proofs.Common.{rules, ◌≡◌, ◌++◌, ◌∷◌, encode_utf8_all, refl, IsAtBoundary}
+use Rattle.nf_boundary.proofs.Common.{rules, ◌≡◌, ◌++◌, ◌∷◌, encode_utf8_all, refl, append_assoc, take_at, IsAtBoundary}
 use Rattle.nf_boundary.proofs.SeenLemmas.{shorter}
 use Rattle.nf_boundary.proofs.JoinLemmas.{gathers_first, gathers_more, gathers_segments}
 use Rattle.nf_boundary.proofs.composing.append_clusters.Goals as goal
@@ -17,3 +17,16 @@ returns-clause-closes c =
     let after : IsAtBoundary c.args.form c.loop-form.next = search rules in
     let grown : c.append_to.new.formed.items ≡ c.loop-form.formed.items ++ encode_utf8_all (c.loop-form.cluster.starter ∷ c.loop-form.cluster.left.items) = search rules in
     search (rules, gathers_segments)
+
+-- what is appended stands after what there was: the prover finds this by itself, in half a minute
+pub returns-in_err-join-clause-keeps : goal.returns-in_err-join-clause-keeps
+returns-in_err-join-clause-keeps c = λ _. rw (c.in_err-join.ensures.stays refl, c.loop-form.invariant.formed) (take_at _ _ _ refl)
+
+pub returns-in_err-next-2-clause-keeps : goal.returns-in_err-next-2-clause-keeps
+returns-in_err-next-2-clause-keeps c = λ _. rw ((c.in_ok-join.ensures.joins refl).formed, c.loop-form.invariant.formed, append_assoc) (take_at _ _ _ refl)
+
+pub returns-then-not-goes_on-clause-keeps : goal.returns-then-not-goes_on-clause-keeps
+returns-then-not-goes_on-clause-keeps c = λ _. rw c.loop-form.invariant.formed (take_at _ _ _ refl)
+
+pub returns-in_err-append_to-clause-keeps : goal.returns-in_err-append_to-clause-keeps
+returns-in_err-append_to-clause-keeps c = λ _. rw (c.in_err-append_to.ensures.none refl, c.loop-form.invariant.formed) (take_at _ _ _ refl)

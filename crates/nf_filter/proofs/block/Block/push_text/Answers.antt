@@ -1,5 +1,5 @@
-use Rattle.nf_filter.proofs.Common.{◌≡◌, ℕ, List, [], ◌++◌, refl, append-nil, append_assoc, Result, Ok, Err, MatchResult, Failed, SinkState, Puts, BreaksOff, Start, BlockState, Written, WritesOn}
-use Rattle.nf_filter.proofs.WritesLemmas.{Puts-after, BreaksOff-after, Broken-extends}
+use Rattle.nf_filter.proofs.Common.{◌≡◌, ◌∙◌, ap, ℕ, List, [], ◌++◌, refl, append-nil, append_assoc, Result, Ok, Err, MatchResult, Failed, SinkState, Puts, BreaksOff, Start, BlockState, Written, WritesOn}
+use Rattle.nf_filter.proofs.WritesLemmas.{Puts-after, BreaksOff-after, Broken-extends, Written-more}
 use Rattle.nf_filter.proofs.block.Block.push_text.Goals as goal
 
 -- past an empty block
@@ -16,3 +16,8 @@ returns-clause-writes g c = λ start w written.
     let none = c.in_default.ensures.none in
     let before = c.in_default.ensures.writes start w written in
     passed start _ _ w c.args.text.now c.put_all.result none before (rw (← append_assoc start.ahead w c.args.text.now, before.text, none, append-nil before.given)) (rw c.as_bytes-2.ensures.value at c.put_all.ensures.puts)
+
+pub returns-then-text-len-clause-writes : goal.returns-then-text-len-clause-writes
+returns-then-text-len-clause-writes g c = λ start w written.
+    let grown : c.try_extend_from_slice.new.self.items ≡ c.args.self.now.room.items ++ c.args.text.now = (rw c.unwrap.ensures at c.try_extend_from_slice.ensures.ok) ∙ ap (λ t. c.args.self.now.room.items ++ t) c.as_bytes.ensures.value in
+    Written-more c.args.text.now grown written
