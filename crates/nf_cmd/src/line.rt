@@ -1,6 +1,7 @@
 //! The command line.
-ghost use Rattle.std.specs.Prelude.{◌≡◌, IfErr, IfOk, false, option_map};
-ghost use Rattle.clap.specs.Words.{app_of, found_of, kind_of, new_app, rows_of, rule_of, subcommand_rows_of};
+ghost use Rattle.std.specs.Prelude.{◌≡◌, IfErr, IfOk, codes, false, option_map, true};
+ghost use Rattle.clap.specs.Simple.{on_top};
+ghost use Rattle.clap.specs.Words.{app_of, found_of, kind_of, new_app, rows_of, rule_of, subcommand_rows_of, with_subcommand};
 ghost use Rattle.clap.specs.declared.builder.command.Command.TheViews.{out-Command};
 ghost use Rattle.clap.specs.Walk.{texts};
 ghost use Rattle.nf_cmd.specs.Line.{Asks, IsLine, IsRefusal, check, convert, flag_rule, form_named, form_rule, is_set};
@@ -61,30 +62,29 @@ fn form_is_missing(alloc: Global) -> Result<Error, AllocError>
 fn line<'w>(alloc: Global) -> Result<Command<'w>, AllocError>
     ensures { IfOk result (λ c. IsLine (app_of c)) }
 {
-    let names = FORMS.as_slice();
-    let measure = plain(
-        alloc,
-        "measure",
-        "nfstream measure < FILE",
-        "Counts the text's characters and non-starters, and what convert would put in",
-        help::MEASURE,
-    );
-    let test = plain(
-        alloc,
-        "test",
-        "nfstream test < FILE",
-        "Tests the forms by a file in the layout of NormalizationTest.txt",
-        help::TEST,
-    );
-    let line = Command::new(alloc, "nfstream")
+    let line = with_forms(alloc, FORMS.as_slice())?;
+    let line = line.subcommand(measure(alloc))?;
+    line.subcommand(test(alloc))
+}
+
+// The program, and the two subcommands that take a form. It stands by itself since what a `?` may leave is proved of each step
+// before it: all four in one function took the prover a minute more.
+fn with_forms<'w>(alloc: Global, names: &'w [&'w str]) -> Result<Command<'w>, AllocError>
+    ensures { IfOk result (λ c. app_of c ≡ with_subcommand (with_subcommand
+        (on_top (λ s. record s { subcommand_required = true }) (new_app (codes "nfstream"))) (convert names.entry).top) (check names.entry).top) }
+{
+    let line = program(alloc).subcommand(convert(alloc, names)?)?;
+    line.subcommand(check(alloc, names)?)
+}
+
+fn program<'w>(alloc: Global) -> Command<'w>
+    ensures { app_of result ≡ on_top (λ s. record s { subcommand_required = true }) (new_app (codes "nfstream")) }
+{
+    Command::new(alloc, "nfstream")
         .override_usage("nfstream <COMMAND> < FILE")
         .about("Makes UTF-8 text on standard input stream-safe, normalizes it, and measures it")
         .after_help(help::PROGRAM)
         .subcommand_required(true)
-        .subcommand(convert(alloc, names)?)?;
-    let line = line.subcommand(check(alloc, names)?)?;
-    let line = line.subcommand(measure)?;
-    line.subcommand(test)
 }
 
 fn convert<'w>(alloc: Global, names: &'w [&'w str]) -> Result<Command<'w>, AllocError>
@@ -143,6 +143,32 @@ fn check<'w>(alloc: Global, names: &'w [&'w str]) -> Result<Command<'w>, AllocEr
         "assigned",
         "Refuses characters that Unicode has not assigned; needs --form",
     ))
+}
+
+fn measure<'w>(alloc: Global) -> Command<'w>
+    ensures shape { app_of result ≡ new_app (codes "measure") }
+    ensures local { (out-Command result).has_globals ≡ false }
+{
+    plain(
+        alloc,
+        "measure",
+        "nfstream measure < FILE",
+        "Counts the text's characters and non-starters, and what convert would put in",
+        help::MEASURE,
+    )
+}
+
+fn test<'w>(alloc: Global) -> Command<'w>
+    ensures shape { app_of result ≡ new_app (codes "test") }
+    ensures local { (out-Command result).has_globals ≡ false }
+{
+    plain(
+        alloc,
+        "test",
+        "nfstream test < FILE",
+        "Tests the forms by a file in the layout of NormalizationTest.txt",
+        help::TEST,
+    )
 }
 
 // A command that takes nothing yet, with the usage, and the texts of its help before and after it.
