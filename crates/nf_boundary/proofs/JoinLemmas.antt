@@ -1,7 +1,7 @@
 -- A cluster of Unicode's characters: how a character more joins it, and what it is when a boundary comes.
-use Rattle.std.proofs.Common.{Option, ◌≡◌, ◌≢◌, ◌⊎◌, inr, ℕ, ◌+◌, ◌<◌, ◌≤◌, true, cond, List, [], ◌∷◌, ◌++◌, Some, None, refl, sym, ◌∙◌, append_assoc, append-nil, arith, eq-eqb}
+use Rattle.std.proofs.Common.{Option, ◌≡◌, ◌≢◌, ◌⊎◌, ℕ, ◌+◌, ◌<◌, ◌≤◌, true, cond, List, [], ◌∷◌, ◌++◌, Some, None, refl, sym, ◌∙◌, append-nil, arith, eq-eqb}
 use Rattle.nf_forms.specs.Cluster.{blocks}
-use Rattle.nf_boundary.proofs.Common.{ucd, Sees, IsAtBoundary, Closes, Form, composes, Seen, Yes, No, canonical_combining_class, IsSoundText, ne_eqb, kit_form, quick_check, IsMark, composite, joined, IsOwnRow, AreClusters, AreMadeOf, JoinsFront, Joins, Gathers, encode_utf8, encode_utf8_all, cluster-joined, cluster-left, cluster-next, HasForm-cluster}
+use Rattle.nf_boundary.proofs.Common.{ucd, Sees, IsAtBoundary, Closes, Form, composes, Seen, Yes, No, canonical_combining_class, IsSoundText, ne_eqb, kit_form, quick_check, IsMark, composite, joined, IsOwnRow, AreMadeOf, Joins, Gathers, encode_utf8_all, cluster-joined, cluster-left, cluster-next, HasForm-cluster}
 use Rattle.ucd_normal.specs.declared.forms.Form.TheVariants.{Nfkd as KitNfkd}
 use Rattle.nf_boundary.specs.declared.cluster.Cluster.{Cluster}
 use Rattle.nf_boundary.proofs.LetterLemmas.{appended, begins_more, split_more, split_seen}
@@ -61,34 +61,11 @@ module _ (f : Form) (seen : Seen) (class : ℕ) (class_is : class ≡ canonical_
           (cluster-next ucd _ _ _ _ _ _ made _ own in_order room (eq-eqb _ 0 (same_class ∙ starts)) (joins done cs made ∙ none));
     }
 
--- ---- Hangul letters
-
--- a letter that composes, where no mark is left
-pub made_letter : (done cs : List ℕ) (cluster : Cluster) → AreMadeOf done cs cluster → (c : ℕ) → IsOwnRow ucd c → canonical_combining_class c ≡ 0 → cluster.count < 30 → cluster.highest ≡ 0
-    → (d : ℕ) → composite ucd cluster.starter c ≡ Some d → AreClusters ucd done (cs ++ c ∷ []) d cluster.left.items 0 cluster.highest (cluster.count + 1)
-made_letter done cs cluster here c own starter room none d both =
-    let class = class_of c ∙ starter in
-    rw class at (cluster-joined ucd _ _ _ _ _ _ here c own (inr class) room d (rw (joined_is done cs cluster here c _ refl, none) both))
-
-pub joins_letter : (text rest : List ℕ) (old new : Cluster) (c : ℕ) → text ≡ encode_utf8 c ++ rest → ((done cs : List ℕ) → AreMadeOf done cs old → AreMadeOf done (cs ++ c ∷ []) new) → JoinsFront text rest old new
-joins_letter text rest old new c e joins = record { front = c ∷ []; split = rw append-nil e; joins = joins }
-
-pub joins_none : (text : List ℕ) (cluster : Cluster) → JoinsFront text text cluster cluster
-joins_none text cluster = grind (arith, append-nil)
-
-pub joins_both : (text middle rest : List ℕ) (a b c : Cluster) → JoinsFront text middle a b → JoinsFront middle rest b c → JoinsFront text rest a c
-joins_both text middle rest a b c first second =
-    let split = split_more text middle rest first.front second.front first.split second.split in
-    grind (arith, λ (cs : List ℕ). append_assoc cs first.front second.front)
-
 -- ---- the characters from one boundary to the next
 
 module _ (f : Form) (first : Seen) (at : IsAtBoundary f first) where
-  pub gathers_first : (one cluster : Cluster) (next : Seen) (rest formed : List ℕ) → AreMadeOf [] (first.character ∷ []) one → JoinsFront first.after.now rest one cluster → next.text.now ≡ rest → Sees next
-      → Gathers f first next cluster formed formed
-  gathers_first one cluster next rest formed made letters is sees =
-      let split = split_more first.text.now first.after.now rest (first.character ∷ []) letters.front (split_seen first at.sees first.after.now refl) letters.split in
-      grind (arith, append-nil, letters.joins [] (first.character ∷ []) made)
+  pub gathers_first : (cluster : Cluster) (next : Seen) (formed : List ℕ) → AreMadeOf [] (first.character ∷ []) cluster → next.text.now ≡ first.after.now → Sees next → Gathers f first next cluster formed formed
+  gathers_first cluster next formed made is sees = let split = split_seen first at.sees next.text.now is in grind (arith, append-nil)
 
   module _ (cluster : Cluster) (seen : Seen) (old new : List ℕ) (here : Gathers f first seen cluster old new) where
     pub gathers_more : (cluster' : Cluster) (next : Seen) (new' : List ℕ) → Joins seen.character cluster cluster' new new' → next.text.now ≡ seen.after.now → Sees next

@@ -1,8 +1,7 @@
--- A character with its decomposition beside it, one that is taken apart, and one that passes the quick check.
-use Rattle.std.proofs.Common.{arith, ◌≡◌, ℕ, false, List, [], ◌∷◌, ◌==◌, length, refl, ◌∙◌, inl, IsTrue}
+-- A character with its decomposition beside it, and one that is taken apart.
+use Rattle.std.proofs.Common.{arith, ◌≡◌, ℕ, false, List, [], ◌∷◌, ◌==◌, length, ◌∙◌, IsTrue}
 use Rattle.std.proofs.Math.Seq.{drop-cons}
-use Rattle.nf_boundary.proofs.Common.{nat_tests, HasForm, composes, HasForm-row, Form, row_of, max_row, is_sound, IsSpan, IsSoundText, NeverSecond, HasBoundaryBefore, IsOwnBoundary, ucd, HasForm-span, kit_form, passes_check, is_syllable, Seen, IsRow, IsAtBoundary}
-use Rattle.nf_forms.specs.Laws.SpanSteps.{begins_run}
+use Rattle.nf_boundary.proofs.Common.{nat_tests, HasForm, composes, HasForm-row, Form, row_of, is_sound, NeverSecond, HasBoundaryBefore, IsOwnBoundary, ucd, kit_form, is_syllable, Seen, IsRow, IsAtBoundary}
 use Rattle.ucd_normal.specs.declared.forms.Form.{Form as KitForm}
 use Rattle.unicode_normalization.specs.Decompose.{table_of, decompose}
 use Rattle.nf_boundary.specs.declared.rows.Row.{Row}
@@ -19,15 +18,7 @@ unfolding decompose
 table_row form c other first rest is = rw (other, is)
 
 module _ (f : Form) (first : Seen) (at : IsAtBoundary f first) (sound_one : (c : ℕ) → IsTrue (is_sound ucd c)) where
-  -- a character that passes is its own form
-  pub form_own : ((x : List ℕ) → IsSoundText ucd x) → ((c : ℕ) → IsTrue (passes_check f c) → IsOwnBoundary ucd f c)
-      → IsTrue (passes_check f first.character) → HasForm ucd f (first.character ∷ []) (first.character ∷ [])
-  form_own sound own_boundary passes =
-      let c = first.character in
-      let span : IsSpan ucd f (c ∷ []) 0 max_row = (0, max_row, inl (begins_run ucd f c (own_boundary c passes) (sound_one c)), (refl, refl)) in
-      HasForm-span ucd f c [] 0 max_row span (sound (c ∷ []))
-
-  -- and that of one that is taken apart is its row
+  -- the form of one that is taken apart is its row
   pub form_apart : composes f ≡ false → ((c : ℕ) → IsTrue (is_ordered ucd (ucd.canonical c))) → ((c : ℕ) → IsTrue (is_ordered ucd (ucd.compat c))) → HasForm ucd f (first.character ∷ []) (decompose (kit_form f) first.character)
   form_apart plain canonical compat = rw row_is (HasForm-row ucd f plain first.character at.boundary (sound_one first.character) (grind (arith, canonical first.character, compat first.character)))
 

@@ -1,5 +1,5 @@
 -- A character as one look-up sees it: what stands after it, and when a text may be cut before it.
-use Rattle.std.proofs.Common.{◌≡◌, ◌<◌, ◌||◌, ◌≤◌, ℕ, false, List, ◌∷◌, ◌++◌, length, ap, arith, length-append, chars, IsTrue}
+use Rattle.std.proofs.Common.{◌≡◌, ◌<◌, ◌||◌, ℕ, false, List, ◌∷◌, ◌++◌, length, ap, arith, length-append, chars, IsTrue}
 use Rattle.nf_boundary.proofs.Common.{ucd, Sees, IsAtBoundary, Form, composes, Yes, Seen, chars_past_char, chars-append, IsUtf8, length-encode, len_utf8_bounds, canonical_combining_class, lead, or_parts, nat_tests, kit_form, quick_check, is_sound, HasBoundaryBefore, IsBoundary, IsOwnBoundary, is_among, halfwidth_marks, vowel_signs, passes_check, resets_count-lead, own_boundary-boundary, boundary-decomposing}
 use Rattle.nf_entry.specs.Entry.{IsOfFirst}
 use Rattle.nf_entry.specs.declared.entry.Entry.{Entry}
@@ -42,11 +42,6 @@ module _ (f : Form) (seen : Seen) (here : Sees seen) where
       -- in one that does not
       pub boundary_apart : composes f ≡ false → IsAtBoundary f seen
       boundary_apart apart = at (boundary-decomposing ucd f apart seen.character (sound seen.character) (grind (arith, begins seen.character)))
-
-  -- where it is a leading consonant of Hangul
-  pub boundary_leading : ((c : ℕ) → IsTrue (is_sound ucd c)) → ((c : ℕ) → IsTrue (passes_check f c) → IsOwnBoundary ucd f c) → 0x1100 ≤ seen.character → seen.character < 0x1113 → canonical_combining_class seen.character ≡ 0 → quick_check (kit_form f) seen.character ≡ Yes
-      → IsAtBoundary f seen
-  boundary_leading sound own_boundary low high class is = boundary_composing sound class (grind (arith, nat_tests)) own_boundary is
 
 -- a text begins as its front does
 pub first_of_front : (front rest : List ℕ) (entry : Entry) → IsUtf8 front → IsOfFirst front entry → IsOfFirst (front ++ rest) entry

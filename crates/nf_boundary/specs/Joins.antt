@@ -12,12 +12,6 @@ use Rattle.nf_boundary.specs.Seen.{Sees}
 abbrev pub AreMadeOf : List ℕ → List ℕ → Cluster → Type 0
 AreMadeOf done cs cluster = AreClusters ucd done cs cluster.starter cluster.left.items cluster.last cluster.highest cluster.count
 
--- a front of the text joins what there was, and the rest stands after it
-pub record JoinsFront (text rest : List ℕ) (old new : Cluster) : Type 0 where
-  pub front : List ℕ
-  pub split : text ≡ encode_utf8_all front ++ rest
-  pub joins : (done cs : List ℕ) → AreMadeOf done cs old → AreMadeOf done (cs ++ front) new
-
 -- a character more joins the cluster, or ends it, and then what it has become is appended
 pub record Joins (c : ℕ) (old new : Cluster) (before after : List ℕ) : Type 0 where
   pub more : List ℕ

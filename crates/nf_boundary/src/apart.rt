@@ -3,8 +3,8 @@ ghost use Rattle.nf_forms.specs.Forms.{composes};
 ghost use Rattle.nf_boundary.specs.Seen.{IsAtBoundary};
 ghost use Rattle.nf_boundary.specs.Pieces.{Closes, Reaches};
 
+use crate::between::take_run;
 use crate::encoding::append;
-use crate::lone::take_kept;
 use crate::seen::Seen;
 use crate::segments::Formed;
 use nf_facts::{in_tables, laws};
@@ -38,7 +38,7 @@ fn take_apart<'t>(form: Form, first: Seen<'t>, formed: &mut Formed) -> Option<Se
     laws::every_character_is_sound();
     laws::rows_are_ordered();
     if first.known.is_yes(form) {
-        return take_kept(form, first, formed);
+        return take_run(form, first.text, formed);
     }
     let next = Seen::boundary(form, first.after)?;
     let mut room = [first.character; 3];

@@ -7,7 +7,6 @@ use arrayvec::ArrayVec;
 use nf_facts::laws;
 use nf_forms::{Form, MAX_RUN};
 use nf_row::Ucd;
-use unicode_normalization::char::compose;
 
 /// So many bytes has a cluster at most.
 const MOST_BYTES: usize = 52;
@@ -27,13 +26,13 @@ pub(crate) struct Cluster {
 }
 
 impl Cluster {
-    ghost use Rattle.std.specs.Prelude.{◌≡◌, ◌<◌, ◌≤◌, ◌⊎◌, ℕ, List, [], ◌∷◌, ◌++◌, length, IfSome, IsTrue, IsSome, IsNone, encode_utf8_all};
+    ghost use Rattle.std.specs.Prelude.{◌≡◌, ◌≤◌, ◌⊎◌, [], ◌∷◌, ◌++◌, IsTrue, IsSome, IsNone, encode_utf8_all};
     ghost use Rattle.ucd_normal.specs.declared.forms.Form.TheVariants.{Nfkd};
     ghost use Rattle.ucd_normal.specs.declared.forms.QuickCheck.TheVariants.{Yes};
     ghost use Rattle.ucd_normal.specs.CanonicalCombiningClass.{canonical_combining_class};
     ghost use Rattle.ucd_normal.specs.QuickCheck.{quick_check};
     ghost use Rattle.nf_boundary.specs.Seen.{Sees};
-    ghost use Rattle.nf_boundary.specs.Joins.{AreMadeOf, JoinsFront, Joins};
+    ghost use Rattle.nf_boundary.specs.Joins.{AreMadeOf, Joins};
 
     /// A starter alone.
     #[inline(always)]
@@ -50,41 +49,6 @@ impl Cluster {
             highest: 0,
             count: 1,
         }
-    }
-
-    /// The Hangul letters that the text begins with and that compose with the starter; answers what stands after them.
-    /// By arithmetic (The Unicode Standard, section 3.12), with no look-up.
-    #[inline(always)]
-    pub fn join_letters<'t>(&mut self, text: &'t str) -> &'t str
-        ensures { JoinsFront text.now result.now self.old self.new }
-    {
-        let mut rest = text;
-        while let Some(after) = self.join_letter(rest) {
-            rest = after;
-        }
-        rest
-    }
-
-    /// A vowel or a trailing consonant, where it composes.
-    #[inline(always)]
-    fn join_letter<'t>(&mut self, text: &'t str) -> Option<&'t str>
-        ensures joins { IfSome result (λ rest. JoinsFront text.now rest.now self.old self.new × (length rest.now < length text.now)) }
-        ensures stays { IsNone result → self.new ≡ self.old }
-    {
-        laws::hangul_letters_are_their_own_rows();
-        laws::each_pair_has_a_primary_composite();
-        let mut chars = text.chars();
-        let letter = chars.next()?;
-        if letter < '\u{1161}' || letter > '\u{11C2}' {
-            return None;
-        }
-        if self.count >= MAX_RUN || self.highest != 0 {
-            return None;
-        }
-        self.starter = compose(self.starter, letter)?;
-        self.last = 0;
-        self.count += 1;
-        Some(chars.as_str())
     }
 
     /// One character more, where it is known what becomes of it: a mark that stands in order, or a starter. Where that does

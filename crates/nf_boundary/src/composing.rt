@@ -3,9 +3,9 @@ ghost use Rattle.nf_forms.specs.Forms.{composes};
 ghost use Rattle.nf_boundary.specs.Seen.{IsAtBoundary};
 ghost use Rattle.nf_boundary.specs.Pieces.{Closes, Reaches};
 
+use crate::between::take_run;
 use crate::cluster::Cluster;
 use crate::hangul::take_syllable;
-use crate::lone::take_run;
 use crate::seen::{Seen, may_begin_with_mark};
 use crate::segments::Formed;
 use nf_facts::laws;
@@ -86,8 +86,7 @@ fn append_clusters<'t>(form: Form, first: Seen<'t>, formed: &mut Formed) -> Opti
     }
     let length = formed.len();
     let mut cluster = Cluster::new(first.character);
-    let after = cluster.join_letters(first.after);
-    let mut next = Seen::first(after)?;
+    let mut next = Seen::first(first.after)?;
     while !next.is_boundary(form) {
         cluster.join(form, next, formed)?;
         next = Seen::first(next.after)?;

@@ -1,4 +1,4 @@
-ghost use Rattle.std.specs.Prelude.{◌≡◌, ℕ, List, IfSome};
+ghost use Rattle.std.specs.Prelude.{ℕ, List, IfSome};
 ghost use Rattle.nf_forms.specs.Ucd.{ucd};
 ghost use Rattle.nf_entry.specs.Entry.{IsOfFirst};
 ghost use Rattle.nf_boundary.specs.Front.{IsFirstSegments};

@@ -1,4 +1,4 @@
-ghost use Rattle.std.specs.Prelude.{◌≡◌, ◌≤◌, ◌<◌, true, IfSome, IsNone};
+ghost use Rattle.std.specs.Prelude.{◌≡◌, true, IfSome, IsNone};
 ghost use Rattle.nf_forms.specs.Forms.{composes};
 ghost use Rattle.nf_boundary.specs.Seen.{IsAtBoundary};
 ghost use Rattle.nf_boundary.specs.Pieces.{Closes};
@@ -25,20 +25,9 @@ pub(crate) fn take_syllable<'t>(
 {
     laws::every_character_is_sound();
     let (syllable, after) = spelled(first.character, first.after)?;
-    let next = boundary(form, after)?;
+    let next = Seen::boundary(form, after)?;
     append_one(formed, syllable)?;
     Some(next)
-}
-
-/// The first character, where a text may be cut before it: with one look-up, and none before a leading consonant.
-#[inline(always)]
-fn boundary<'t>(form: Form, text: &'t str) -> Option<Seen<'t>>
-    ensures { IfSome result (λ seen. (seen.text.now ≡ text.now) × IsAtBoundary form seen) }
-{
-    match Seen::leading(form, text) {
-        Some(seen) => Some(seen),
-        None => Seen::boundary(form, text),
-    }
 }
 
 /// The syllable that is written with a leading consonant and the letters that the text begins with, by the arithmetic of

@@ -5,13 +5,13 @@
 
 mod after_span;
 mod apart;
+mod between;
 mod closing;
 mod cluster;
 mod composing;
 mod encoding;
 mod front;
 mod hangul;
-mod lone;
 mod mark;
 mod piece;
 mod pieces;

@@ -12,7 +12,7 @@ use crate::closing::{Segment, close_off};
 use crate::encoding::{append_one, put_utf8};
 use crate::mark::{Mark, Run, hold};
 use crate::rows::Row;
-use crate::seen::{Seen, look_up_member};
+use crate::seen::{Seen, look_up};
 use crate::segments::Formed;
 use nf_entry::Entry;
 use nf_facts::{in_tables, laws};
@@ -82,7 +82,7 @@ impl Piece {
         ensures stays { IsNone result → formed.new ≡ formed.old }
     {
         laws::the_quick_check_tells();
-        let known = look_up_member(member);
+        let known = look_up(member);
         if !known.passes(form) {
             self.room = hold_one(&mut self.run, self.room, member, known.class())?;
             return Some(());

@@ -7,7 +7,7 @@ ghost use Rattle.nf_facts.specs.KitForm.{kit_form};
 ghost use Rattle.nf_boundary.specs.Seen.{Sees};
 ghost use Rattle.nf_boundary.specs.Rows.{IsRow};
 
-use crate::seen::{Seen, look_up_member};
+use crate::seen::{Seen, look_up};
 use nf_facts::{in_tables, laws};
 use nf_forms::Form;
 use ucd_normal::{canonical_decomposition, compatibility_decomposition};
@@ -66,7 +66,7 @@ pub(crate) fn changed<'t>(form: Form, seen: Seen<'t>) -> Option<Row<'t>>
     }
     let members = members(form, seen.character);
     let (first, _) = members.split_first()?;
-    if !look_up_member(*first).passes(form) {
+    if !look_up(*first).passes(form) {
         return None;
     }
     Some(Row { seen, members })

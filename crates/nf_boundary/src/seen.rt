@@ -1,6 +1,4 @@
-ghost use Rattle.std.specs.Prelude.{◌≡◌, IsTrue};
-ghost use Rattle.nf_forms.specs.declared.form.Form.{Form};
-ghost use Rattle.nf_facts.specs.Passing.{passes_check};
+ghost use Rattle.std.specs.Prelude.{◌≡◌};
 ghost use Rattle.nf_entry.specs.Entry.{IsEntry};
 
 use nf_entry::Entry;
@@ -65,28 +63,6 @@ impl<'t> Seen<'t> {
         Some(seen)
     }
 
-    /// The first character, where it is a leading consonant of Hangul: with no look-up, for a text may be cut before it.
-    #[inline(always)]
-    pub fn leading(form: Form, text: &'t str) -> Option<Seen<'t>>
-        ensures { IfSome result (λ seen. (seen.text.now ≡ text.now) × IsAtBoundary form seen) }
-    {
-        laws::every_character_is_sound();
-        laws::the_quick_check_tells();
-        laws::hangul_letters_are_their_own_rows();
-        laws::leading_consonants_pass();
-        let mut chars = text.chars();
-        let character = chars.next()?;
-        if character < '\u{1100}' || character > '\u{1112}' {
-            return None;
-        }
-        Some(Seen {
-            text,
-            character,
-            known: Entry::of_passing(character),
-            after: chars.as_str(),
-        })
-    }
-
     /// Whether it is a leading consonant of Hangul that modern syllables have.
     #[inline(always)]
     pub fn is_leading(self) -> bool {
@@ -97,16 +73,7 @@ impl<'t> Seen<'t> {
     /// with a mark after it.
     #[inline(always)]
     pub fn goes_on(self) -> bool {
-        if self.is_leading() {
-            return true;
-        }
-        if !may_begin_with_mark(self.after) {
-            return false;
-        }
-        match Seen::first(self.after) {
-            Some(next) => next.known.class() != 0,
-            None => false,
-        }
+        self.is_leading() || may_begin_with_mark(self.after)
     }
 
     /// Whether it is left as it is, and so is the one after it, before which a text may be cut.
@@ -139,38 +106,18 @@ impl<'t> Seen<'t> {
 
 /// The entry of `c`: of ASCII with no look-up.
 #[inline(always)]
-fn look_up(c: char) -> Entry
+pub(crate) fn look_up(c: char) -> Entry
     ensures { IsEntry c result }
-{
-    if c < '\u{80}' && is_plain(c) {
-        return Entry::of_passing(c);
-    }
-    Entry::of(c)
-}
-
-/// The same of a member of a decomposition: of most with no look-up.
-#[inline(always)]
-pub(crate) fn look_up_member(c: char) -> Entry
-    ensures { IsEntry c result }
-{
-    if is_plain(c) {
-        return Entry::of_passing(c);
-    }
-    Entry::of(c)
-}
-
-/// Whether it shows with no look-up that `c` passes, in each form: in ASCII, and among the letters of Arabic and of Han, of
-/// which most decompositions are made.
-#[inline(always)]
-fn is_plain(c: char) -> bool
-    ensures { IsTrue result → (f : Form) → IsTrue (passes_check f c) }
 {
     laws::plain_ranges_pass();
-    matches!(c, '\0'..='\x7F' | '\u{627}'..='\u{64A}' | '\u{3400}'..='\u{9FFF}')
+    if c < '\u{80}' {
+        return Entry::of_passing(c);
+    }
+    Entry::of(c)
 }
 
-/// Whether the first bytes leave it open that a mark comes first: none comes before U+0300, nor where most letters of
-/// Cyrillic, Arabic, Chinese and Japanese stand.
+/// Whether the first bytes leave it open that a mark comes first: none comes before U+0300, nor where most letters of Greek,
+/// Cyrillic, Hebrew, Arabic, Chinese and Japanese stand.
 #[inline(always)]
 pub(crate) fn may_begin_with_mark(text: &str) -> bool {
     let bytes = text.as_bytes();
@@ -178,7 +125,8 @@ pub(crate) fn may_begin_with_mark(text: &str) -> bool {
         return false;
     }
     match bytes[0] {
-        0x00..=0xCB | 0xD0 | 0xD1 | 0xE4..=0xE9 => false,
+        0x00..=0xCB | 0xCE..=0xD1 | 0xE4..=0xE9 => false,
+        0xD7 => bytes[1] < 0x90,
         0xD8 => bytes[1] < 0xA0,
         0xD9 => bytes[1] > 0x8A,
         0xE3 => bytes[1] == 0x80 || bytes[1] == 0x82,

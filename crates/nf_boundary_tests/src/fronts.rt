@@ -251,12 +251,12 @@ fn decomposed(rt: HostRuntime) -> Result<(), Fail> {
             "e\u{301}",
             "abcdefghijklmnopqrstuvwxyzabcdefghijklmnopqrstuvwxyzabcdefghijkl\u{E9}s, et puis",
         ),
-        // A character of which bytes do not tell that it stays, before ASCII and before another.
+        // A character of which bytes do not tell that it stays.
         (
             "",
-            "\u{E9}\u{2019}cole\u{E9}",
-            "e\u{301}\u{2019}colee\u{301}",
-            "\u{2019}\u{2019} et puis encore",
+            "\u{E9}",
+            "e\u{301}",
+            "\u{2019}cole\u{E9} et puis encore",
         ),
     ];
     check(&rt, rt.alloc(), Form::Nfd, &fronts)?;

@@ -82,8 +82,8 @@ fn look_ahead(
     Err(at)
 }
 
-/// The bytes from `at` on. Two or three are asked only where a lead byte does not tell; and not where the form most likely changes
-/// what begins with it, if it is asked for what is near.
+/// The bytes from `at` on. Two or three are asked only where a lead byte does not tell; and not of syllables of Hangul, which the
+/// forms change that do not compose, if it is asked for what is near.
 #[inline(always)]
 fn window(form: Form, bytes: &[u8], at: usize, is_near: bool) -> Window
     requires room { at + 18 ≤ length bytes.now }
@@ -99,22 +99,13 @@ fn window(form: Form, bytes: &[u8], at: usize, is_near: bool) -> Window
         return leads;
     };
     let lead = bytes[at + run];
-    if is_near && is_changed(form, lead, bytes[at + run + 1]) {
+    if is_near && !form.composes() && matches!(lead, 0xEA..=0xED) {
         return leads;
     }
     Window {
         looks: asked_looks(form, lead, bytes, at),
         after,
     }
-}
-
-/// Whether the form changes most of what begins so, of two bytes, or symbols, syllables of Hangul, letters of Latin and Greek
-/// with marks, and letters of another width where letters are taken apart.
-#[inline(always)]
-fn is_changed(form: Form, lead: u8, next: u8) -> bool {
-    lead < 0xE0
-        || !form.composes()
-            && (matches!(lead, 0xE2 | 0xEA..=0xED | 0xEF) || lead == 0xE1 && next >= 0xB8)
 }
 
 /// A bit for each byte from `at` on, the lowest for the first: whether a character that begins with it has to be looked up, where

@@ -4,7 +4,7 @@ use Rattle.nf_boundary.proofs.JoinLemmas.{gathers_first, gathers_more, gathers_s
 use Rattle.nf_boundary.proofs.composing.append_clusters.Goals as goal
 
 pub loop-form-init : goal.loop-form-init
-loop-form-init c = search (rules, gathers_first, c.new-cluster.ensures, c.join_letters-after.ensures, c.in_ok-next.ensures.0, c.in_ok-next.ensures.1)
+loop-form-init c = search (rules, gathers_first, c.new-cluster.ensures, c.in_ok-next.ensures.0, c.in_ok-next.ensures.1)
 
 pub loop-form-smaller : goal.loop-form-smaller
 loop-form-smaller c = search (rules, shorter)

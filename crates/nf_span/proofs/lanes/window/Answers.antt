@@ -5,8 +5,3 @@ pub bounds-bytes-at : goal.bounds-bytes-at
 bounds-bytes-at c =
     let bytes = c.args.bytes.now in
     omega (arith, c.requires, length-drop c.args.at bytes, (c.in-Some.ensures.next c.args.form (drop c.args.at bytes) (c.lead_looks.ensures _ refl (omega (arith, c.requires)))).1)
-
-pub bounds-bytes-at-then-is_near : goal.bounds-bytes-at-then-is_near
-bounds-bytes-at-then-is_near c =
-    let bytes = c.args.bytes.now in
-    omega (arith, c.requires, length-drop c.args.at bytes, (c.in-Some.ensures.next c.args.form (drop c.args.at bytes) (c.lead_looks.ensures _ refl (omega (arith, c.requires)))).1)

@@ -1,6 +1,6 @@
 use Rattle.nf_boundary.proofs.Common.{rules, ◌≡◌, ◌≢◌, ◌++◌, length}
 use Rattle.nf_boundary.proofs.PieceLemmas.{stands-seam, closes_run}
-use Rattle.nf_boundary.proofs.lone.take_run.Goals as goal
+use Rattle.nf_boundary.proofs.between.take_run.Goals as goal
 
 pub split_at-requires : goal.split_at-requires
 split_at-requires c = search (rules, stands-seam)
