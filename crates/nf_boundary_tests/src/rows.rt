@@ -21,12 +21,7 @@ fn rows_between_boundaries(rt: HostRuntime) -> Result<(), Fail> {
         ("a", "\u{2126}", "\u{3A9}", "\u{2126}\u{301}"),
         // One character between two, and more only where bytes leave it open that a mark comes.
         ("", "\u{2126}a\u{2126}", "\u{3A9}a\u{3A9}", "bc\u{E9}"),
-        (
-            "",
-            "\u{2126}a\u{2126}bc",
-            "\u{3A9}a\u{3A9}bc",
-            "\u{2126}",
-        ),
+        ("", "\u{2126}a\u{2126}bc", "\u{3A9}a\u{3A9}bc", "\u{2126}"),
         (
             "",
             "\u{2126}\u{4E00}\u{F900}",
