@@ -4,7 +4,7 @@ ghost use Rattle.nf_boundary.specs.Seen.{IsAtBoundary};
 ghost use Rattle.nf_boundary.specs.Pieces.{Closes, Reaches};
 
 use crate::between::take_run;
-use crate::encoding::append;
+use crate::encoding::{append, append_one};
 use crate::seen::Seen;
 use crate::segments::Formed;
 use nf_facts::{in_tables, laws};
@@ -26,8 +26,8 @@ pub(crate) fn take_front_apart<'t>(form: Form, first: Seen<'t>, formed: &mut For
 }
 
 /// Appends the decomposition of a character that the form changes, where a boundary comes after it, and answers that: in
-/// a form that does not compose, so much is a segment. A span is left, to be taken as it stands, but for a little before
-/// another that is changed.
+/// a form that does not compose, so much is a segment. A span is left, to be taken as it stands, but for a character, or a little
+/// more, before another that is changed.
 #[inline(always)]
 fn take_apart<'t>(form: Form, first: Seen<'t>, formed: &mut Formed) -> Option<Seen<'t>>
     requires first { IsAtBoundary form first }
@@ -37,7 +37,15 @@ fn take_apart<'t>(form: Form, first: Seen<'t>, formed: &mut Formed) -> Option<Se
 {
     laws::every_character_is_sound();
     laws::rows_are_ordered();
+    laws::what_passes_has_a_boundary_before();
     if first.known.is_yes(form) {
+        if may_change(first.after)
+            && let Some(next) = Seen::boundary(form, first.after)
+            && !next.known.is_yes(form)
+        {
+            append_one(formed, first.character)?;
+            return Some(next);
+        }
         return take_run(form, first.text, formed);
     }
     let next = Seen::boundary(form, first.after)?;
@@ -47,4 +55,12 @@ fn take_apart<'t>(form: Form, first: Seen<'t>, formed: &mut Formed) -> Option<Se
         decomposition(first.character, in_tables(form), &mut room),
     )?;
     Some(next)
+}
+
+/// Whether the first byte leaves it open that a character comes first which a form that decomposes changes: it does of most
+/// letters of Latin with marks, of kana and of Hangul.
+#[inline(always)]
+fn may_change(text: &str) -> bool {
+    let bytes = text.as_bytes();
+    !bytes.is_empty() && matches!(bytes[0], 0xC3..=0xC8 | 0xCE | 0xE0..=0xE3 | 0xEA..=0xED | 0xEF)
 }
