@@ -1,5 +1,5 @@
 -- The names that most of these proofs cite, passed on from one place. Declares nothing.
-pub use Rattle.std.proofs.Common.{⊎_elim, get_or, ◌≡◌, ℕ, List, [], Option, Some, None, Result, Ok, Err, inl, inr, sym, ap, ◌∙◌, subst, ◌⊎◌, refl, arith, zero, suc, ◌-◌, ◌/◌, ◌%◌, ◌<◌, ◌≤◌, true, cond, ◌∷◌, ◌++◌, drop, length, replicate, false, codes, Bor, ◌&&◌, Bool, not, fold, find, slice_get, bytes_eq, is_some, option_map, ap₂, min, ◌+◌, append-nil, eqb-true, IsTrue, OnOk, encode_utf8, chars, rules, Box, box_value, is_ok, take, take-append-drop, take-add}
+pub use Rattle.std.proofs.Common.{⊎_elim, get_or, ◌≡◌, ℕ, List, [], Option, Some, None, Result, Ok, Err, inl, inr, sym, ap, ◌∙◌, subst, ◌⊎◌, refl, arith, zero, suc, ◌-◌, ◌/◌, ◌^◌, ◌<◌, ◌≤◌, true, cond, ◌∷◌, ◌++◌, drop, length, replicate, false, codes, Bor, ◌&&◌, Bool, not, fold, find, slice_get, bytes_eq, is_some, option_map, ap₂, min, ◌+◌, append-nil, eqb-true, IsTrue, OnOk, encode_utf8, chars, rules, Box, box_value, is_ok, take, take-append-drop, take-add}
 pub use Rattle.std.proofs.KnownBytes.{Appends-nil, Keeps-refl, Appends-kept, Appends-trans}
 pub use Rattle.std.proofs.lemmas.Bool.{cond_both, cases_Bool, cases_lt, not-false}
 pub use Rattle.std.proofs.lemmas.Result.{IfOk-weaker}
@@ -24,7 +24,6 @@ pub use Rattle.clap.specs.declared.parser.matches.ValueSource.TheVariants.{Defau
 unfoldable pub use Rattle.nf_cmd.specs.Line.{check, convert, flag_rule, form_rule, line}
 pub use Rattle.nf_cmd.specs.Line.{Asks, IsRefusal, IsRefused, request_of, IsLine, conversion, form_named, form_names, is_set, lacks_form, policy_of, request_by}
 unfoldable pub use Rattle.nf_cmd.specs.Lines.{line_of}
-pub use Rattle.nf_cmd.specs.Text.{six_digits, zeros_before}
 pub use Rattle.nf_cmd.specs.declared.line.Request.{Request}
 pub use Rattle.nf_cmd.specs.declared.line.Request.TheVariants.{Convert, ConvertLines, Check, CheckForm, Measure, Test}
 pub use Rattle.nf_forms.specs.declared.form.Form.{Form}

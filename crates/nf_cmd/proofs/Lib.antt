@@ -4,5 +4,4 @@ mod WalkRows
 mod LevelRows
 mod Requests
 mod RunsLemmas
-mod CodeDigits
 mod Examples

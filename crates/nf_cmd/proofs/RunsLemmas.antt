@@ -1,6 +1,6 @@
 -- What a run shows: its parts put together, no fault of an unsound character where none of the data is one, and that what `convert`
 -- wrote to the end without a fault is not changed by a second run.
-use Rattle.nf_cmd.proofs.Common.{cases_Bool, ◌≡◌, ℕ, false, List, [], Option, Some, Result, Ok, Err, inl, inr, subst, ◌⊎◌, ⊎_elim, refl, IsTrue, OnOk, Appends-kept, Form, Convert, ConvertLines, Check, CheckForm, Measure, Test, arith, Keeps, Appends-nil, ErrorKind, DisplayHelp, Text, Request, line_of, IsRefusal, IsRefused}
+use Rattle.nf_cmd.proofs.Common.{cases_Bool, ◌≡◌, ℕ, List, [], Option, Some, Result, Ok, Err, inl, inr, subst, ◌⊎◌, ⊎_elim, refl, IsTrue, Appends-kept, Form, Convert, ConvertLines, Check, CheckForm, Measure, Test, arith, Keeps, Appends-nil, ErrorKind, DisplayHelp, Text, Request, line_of, IsRefusal, IsRefused}
 use Rattle.nf_cmd.specs.Answers.{Does, Answers, ComesOf, Devices}
 use Rattle.nf_cmd.specs.declared.fault.Fault.{Fault}
 use Rattle.nf_filter.specs.Devices.{SinkState, SourceState}
@@ -39,13 +39,6 @@ refused_answers (inr refuses) unread comes = inr (inl (record { kind = _; refuse
 pub help_answers : {k : ErrorKind} (before after : Devices) → DisplayHelp ≡ k → after.err ≡ before.err → ComesOf k before after 0
 unfolding line_of
 help_answers before after help same = rw (← help) (inr (inl (record { status_is = refl; line = ([], [], refl, rw same (Appends-nil before.err)) })))
-
--- what the library did, over devices of which only the bytes are told
-pub runs_from : {T : Type 0} {drives : SourceState → SourceState → SinkState → SinkState → Result T Found → Type 0} {coming left taken now : Option (List ℕ)} (source rest : SourceState) (old new : SinkState) {answer : Result T Found}
-    → drives source rest old new answer → OnOk answer (IsTrue rest.is_at_end)
-    → (source.coming ≡ coming) × (rest.coming ≡ left) → (old.taken ≡ taken) × (new.taken ≡ now) → old.is_failed ≡ false → Runs drives coming left taken now answer
-runs_from source rest old new driven end input output unfailed =
-    record { source = source; rest = rest; old = old; new = new; input_is = input; output_is = output; unfailed = unfailed; end = end; driven = driven }
 
 -- no character is unsound
 pub never_row : DrivingRefusesNone → CheckingRefusesNone → MeasuringRefusesNone → AreSound ucd

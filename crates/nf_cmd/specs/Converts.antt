@@ -24,11 +24,11 @@ pub record Runs {T : Type 0} (drives : SourceState → SourceState → SinkState
   pub rest : SourceState
   pub old : SinkState
   pub new : SinkState
+  pub driven : drives source rest old new answer
+  pub end : OnOk answer (IsTrue rest.is_at_end)
   pub input_is : (source.coming ≡ coming) × (rest.coming ≡ left)
   pub output_is : (old.taken ≡ taken) × (new.taken ≡ now)
   pub unfailed : old.is_failed ≡ false
-  pub end : OnOk answer (IsTrue rest.is_at_end)
-  pub driven : drives source rest old new answer
 
 -- the program ends by that answer, unless a flush failed; a flush writes nothing
 pub record Ends {T : Type 0} (drives : SourceState → SourceState → SinkState → SinkState → Result T Found → Type 0) (coming left taken now : Option (List ℕ)) (found : Result ℕ Fault) : Type 0 where

@@ -63,8 +63,20 @@ fn line<'w>(alloc: Global) -> Result<Command<'w>, AllocError>
     ensures { IfOk result (λ c. IsLine (app_of c)) }
 {
     let line = with_forms(alloc, FORMS.as_slice())?;
-    let line = line.subcommand(measure(alloc))?;
-    line.subcommand(test(alloc))
+    let line = line.subcommand(plain(
+        alloc,
+        "measure",
+        "nfstream measure < FILE",
+        "Counts the text's characters and non-starters, and what convert would put in",
+        help::MEASURE,
+    ))?;
+    line.subcommand(plain(
+        alloc,
+        "test",
+        "nfstream test < FILE",
+        "Tests the forms by a file in the layout of NormalizationTest.txt",
+        help::TEST,
+    ))
 }
 
 // The program, and the two subcommands that take a form. It stands by itself since what a `?` may leave is proved of each step
@@ -143,32 +155,6 @@ fn check<'w>(alloc: Global, names: &'w [&'w str]) -> Result<Command<'w>, AllocEr
         "assigned",
         "Refuses characters that Unicode has not assigned; needs --form",
     ))
-}
-
-fn measure<'w>(alloc: Global) -> Command<'w>
-    ensures shape { app_of result ≡ new_app (codes "measure") }
-    ensures local { (out-Command result).has_globals ≡ false }
-{
-    plain(
-        alloc,
-        "measure",
-        "nfstream measure < FILE",
-        "Counts the text's characters and non-starters, and what convert would put in",
-        help::MEASURE,
-    )
-}
-
-fn test<'w>(alloc: Global) -> Command<'w>
-    ensures shape { app_of result ≡ new_app (codes "test") }
-    ensures local { (out-Command result).has_globals ≡ false }
-{
-    plain(
-        alloc,
-        "test",
-        "nfstream test < FILE",
-        "Tests the forms by a file in the layout of NormalizationTest.txt",
-        help::TEST,
-    )
 }
 
 // A command that takes nothing yet, with the usage, and the texts of its help before and after it.

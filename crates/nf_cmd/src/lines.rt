@@ -1,7 +1,7 @@
 //! The lines that a run writes on its output, gathered so that they go out at once.
 ghost use Rattle.std.specs.Prelude.{◌≡◌, ◌+◌, ◌%◌, ◌≤◌, ◌++◌, [], true, length, decimal};
 ghost use Rattle.std.specs.Fmt.{digit_glyph};
-ghost use Rattle.nf_cmd.specs.Text.{code_digits, line, name_of, six_digits, zeros_before};
+ghost use Rattle.nf_cmd.specs.Text.{code_digits, line, name_of};
 
 use arrayvec::ArrayVec;
 use itoa::Buffer;
@@ -59,9 +59,16 @@ impl Lines {
         ensures bytes { self.new.bytes.items ≡ self.old.bytes.items ++ code_digits c }
         ensures len { length self.new.bytes.items ≤ length self.old.bytes.items + 6 }
     {
-        let digits = six_digits(u32::from(c));
-        let short = &digits[zeros_before(c)..];
-        self.bytes.try_extend_from_slice(short).unwrap();
+        let mut digits = [b'0'; 6];
+        let mut at = 6;
+        let mut rest = u32::from(c);
+        while rest > 0 {
+            at -= 1;
+            digits[at] = digit(rest);
+            rest /= 16;
+        }
+        let shown = &digits[at.min(2)..];
+        self.bytes.try_extend_from_slice(shown).unwrap();
     }
 
     pub(crate) fn as_slice(&self) -> &[u8]
@@ -84,20 +91,6 @@ pub(crate) fn form_name(form: Form) -> &'static str
     }
 }
 
-// The last six hexadecimal digits.
-fn six_digits(n: u32) -> [u8; 6]
-    ensures { result ≡ six_digits n }
-{
-    [
-        digit(n / 0x100000),
-        digit(n / 0x10000),
-        digit(n / 0x1000),
-        digit(n / 0x100),
-        digit(n / 0x10),
-        digit(n),
-    ]
-}
-
 // The last hexadecimal digit.
 fn digit(n: u32) -> u8
     ensures { result ≡ digit_glyph true (n % 16) }
@@ -107,17 +100,5 @@ fn digit(n: u32) -> u8
         b'0' + digit
     } else {
         b'A' + (digit - 10)
-    }
-}
-
-// How many of the six digits are zeros that are not written.
-fn zeros_before(c: char) -> usize
-    ensures value { result ≡ zeros_before c }
-    ensures bound { result ≤ 2 }
-{
-    match u32::from(c) {
-        0..0x10000 => 2,
-        0x10000..0x100000 => 1,
-        _ => 0,
     }
 }

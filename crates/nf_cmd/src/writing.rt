@@ -1,5 +1,5 @@
 //! Bytes to a writer. An interrupted write is a failure like any other.
-ghost use Rattle.std.specs.Prelude.{◌≡◌, ◌<◌, ◌≤◌, length, take, IfErr, OnErr, OnOk};
+ghost use Rattle.std.specs.Prelude.{◌≡◌, ◌<◌, length, IfErr, OnErr, OnOk};
 ghost use Rattle.std.specs.Io.KnownBytes.{Appends, Keeps};
 ghost use Rattle.nf_cmd.specs.Fronts.{AppendsFront};
 
@@ -23,27 +23,15 @@ pub(crate) fn write_front<O: Write>(out: &mut O, bytes: &[u8]) -> Result<(), Fau
     ensures short { OnErr result (0 < length bytes.now) }
     ensures fault { IfErr result (λ fault. fault ≡ Fault.Write) }
 {
-    if write_some(out, bytes) == bytes.len() {
-        Ok(())
-    } else {
-        Err(Fault::Write)
-    }
-}
-
-/// Writes as many of the bytes as the writer takes before it fails, and answers how many.
-pub(crate) fn write_some<O: Write>(out: &mut O, bytes: &[u8]) -> usize
-    ensures within { result ≤ length bytes.now }
-    ensures written { Appends (O.contents out.old) (O.contents out.new) (take result bytes.now) }
-{
     let mut at = 0;
     while at < bytes.len() {
         match out.write(&bytes[at..]) {
-            Ok(0) => return at,
+            Ok(0) => return Err(Fault::Write),
             Ok(n) => at += n,
-            Err(_) => return at,
+            Err(_) => return Err(Fault::Write),
         }
     }
-    at
+    Ok(())
 }
 
 /// Flushes.

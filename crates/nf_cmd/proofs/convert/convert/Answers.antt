@@ -1,7 +1,6 @@
 use Rattle.nf_cmd.proofs.Common.{◌≡◌, ◌∙◌, [], rules}
 use Rattle.nf_filter.specs.Filter.{base_of, state_of}
 use Rattle.nf_filter.specs.Policy.{as_is}
-use Rattle.nf_cmd.proofs.RunsLemmas.{runs_from}
 use Rattle.nf_cmd.proofs.convert.convert.Goals as goal
 
 pub returns : goal.returns
@@ -11,7 +10,7 @@ returns g c =
     record {
       answer = _;
       given = _;
-      runs = runs_from _ _ _ _ driven c.drive_buffered-answer.ensures.end (search rules) (search rules) (search rules);
+      runs = record { source = _; rest = _; old = _; new = _; driven = driven; end = c.drive_buffered-answer.ensures.end; input_is = search rules; output_is = search rules; unfailed = search rules };
       flushed = c.ended.ensures.flushed;
       found_is = c.ended.ensures.found;
     }

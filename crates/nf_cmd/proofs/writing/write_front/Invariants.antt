@@ -1,5 +1,5 @@
 use Rattle.nf_cmd.proofs.Common.{length, take, ◌-◌, ◌≤◌, Appends}
-use Rattle.nf_cmd.proofs.writing.write_some.Given as goal
+use Rattle.nf_cmd.proofs.writing.write_front.Given as goal
 
 abbrev pub invariant-loop-at : goal.invariant-loop-at
 invariant-loop-at g l = (l.at ≤ length l.bytes) × Appends (g.O.Write.contents l.fn.out) (g.O.Write.contents l.out) (take l.at l.bytes)
