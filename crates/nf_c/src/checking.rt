@@ -1,5 +1,5 @@
 //! Whether a text in memory is in the Stream-Safe Text Format, or in a normalization form as well.
-ghost use Rattle.std.specs.Prelude.{◌≡◌, Bool};
+ghost use Rattle.std.specs.Prelude.{◌≡◌};
 ghost use Rattle.nf_c.specs.State.{policy_at, form_at};
 ghost use Rattle.nf_c.specs.Moved.{moved};
 ghost use Rattle.nf_c.specs.Checks.{Checks, ChecksForm, check_form_status, checked};
@@ -11,7 +11,7 @@ use crate::status::Status;
 use nf_facts::laws::every_character_is_sound;
 use nf_filter::laws::no_sound_character_is_refused;
 use nf_filter::{Failed, Fault, Source};
-use nf_row::{Form, Ucd};
+use nf_row::Ucd;
 use nf_safe::Place;
 
 /// Tells where the input, which is a whole text, leaves the Stream-Safe Text Format (UAX #15, section 13), if it does; or a
@@ -21,7 +21,10 @@ pub fn check(input: &[u8]) -> Moved
 {
     every_character_is_sound();
     no_sound_character_is_refused();
-    let mut text = Text::of(input);
+    let mut text = Text {
+        rest: input,
+        ended: false,
+    };
     let answer = nf_filter::check(&Ucd, 0, &mut text);
     told(answer, Status::Unsafe, input.len())
 }
@@ -42,14 +45,11 @@ pub fn check_form(form: u32, policy: u32, input: &[u8]) -> Moved
     if policy.replace {
         return Moved::of(Status::NoPolicy, 0, 0);
     }
-    check_text(form, policy.assigned, input)
-}
-
-fn check_text(form: Form, assigned: bool, input: &[u8]) -> Moved
-    ensures { ChecksForm assigned form input.now result }
-{
-    let mut text = Text::of(input);
-    let answer = nf_normalized::check_form(form, assigned, 0, &mut text);
+    let mut text = Text {
+        rest: input,
+        ended: false,
+    };
+    let answer = nf_normalized::check_form(form, policy.assigned, 0, &mut text);
     told(answer, Status::NotNormalized, input.len())
 }
 
@@ -75,20 +75,6 @@ fn told(answer: Result<Option<Place>, Fault>, found: Status, len: usize) -> Move
 struct Text<'t> {
     rest: &'t [u8],
     ended: bool,
-}
-
-impl<'t> Text<'t> {
-    ghost use Rattle.std.specs.Prelude.{◌≡◌, false};
-
-    fn of(input: &'t [u8]) -> Text<'t>
-        ensures rest { result.rest.now ≡ input.now }
-        ensures ended { result.ended ≡ false }
-    {
-        Text {
-            rest: input,
-            ended: false,
-        }
-    }
 }
 
 impl Source for Text<'_> {

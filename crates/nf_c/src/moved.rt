@@ -28,10 +28,9 @@ impl Moved {
         ensures { result ≡ ended fault (read_before fault offset len read) written }
     {
         let before = match fault {
-            Some(Fault::BadByte { at, start: _ }) => at
-                .saturating_sub(offset)
-                .min(len as u64) as usize,
-            Some(Fault::Unassigned { at }) => at.saturating_sub(offset).min(len as u64) as usize,
+            Some(Fault::BadByte { at, .. } | Fault::Unassigned { at }) => {
+                at.saturating_sub(offset).min(len as u64) as usize
+            }
             _ => read,
         };
         Moved::ended(fault, before, written)

@@ -77,14 +77,6 @@ fn number_of_starter(starter: Option<char>) -> u32
     }
 }
 
-/// 1 where the text has ended.
-fn number_of_spent(spent: bool) -> u8
-    ensures number { result ≤ 1 }
-    ensures spent { (result == 1) ≡ spent }
-{
-    if spent { 1 } else { 0 }
-}
-
 /// What a filter saved of its state, in so many numbers.
 pub fn pack(saved: &Saved) -> State
     ensures state { IsState result }
@@ -107,7 +99,7 @@ pub fn pack(saved: &Saved) -> State
         count: saved.count,
         form: number_of(saved.form),
         policy: number_of_policy(saved.policy),
-        spent: number_of_spent(saved.spent),
+        spent: u8::from(saved.spent),
     }
 }
 
@@ -186,10 +178,7 @@ fn unpack_marks(numbers: &[u32]) -> Option<Run>
 {
     let mut marks = Run::new();
     for number in numbers {
-        let Some(mark) = unpack_mark(*number) else {
-            return None;
-        };
-        marks.push(mark);
+        marks.push(unpack_mark(*number)?);
     }
     Some(marks)
 }

@@ -6,6 +6,6 @@ use Rattle.nf_c.proofs.packing.unpack_marks.Goals as goal
 
 pub loop-number-preserved : goal.loop-number-preserved
 loop-number-preserved c = record {
-  marks = simp (c.push.ensures.items, c.loop-number.invariant.marks, c.in-Some.ensures.mark, take_more c.args.numbers.now c.loop-number.number-index 0 c.loop-number-test.true, map-append);
+  marks = simp (c.push.ensures.items, c.loop-number.invariant.marks, c.in_ok-unpack_mark.ensures.mark, take_more c.args.numbers.now c.loop-number.number-index 0 c.loop-number-test.true, map-append);
   all = All-more IsMark c.args.numbers.now c.loop-number.number-index 0 c.loop-number-test.true c.loop-number.invariant.all (search rules);
 }
