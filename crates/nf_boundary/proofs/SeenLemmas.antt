@@ -5,13 +5,9 @@ use Rattle.nf_entry.specs.Entry.{IsOfFirst}
 use Rattle.nf_entry.specs.declared.entry.Entry.{Entry}
 use Rattle.unicode_normalization.proofs.FormsLemmas.{is_yes-true}
 
--- what passes is a starter of which the quick check says yes
-module _ (f : Form) (c : ℕ) (passes : IsTrue (passes_check f c)) where
-  pub passes_class : canonical_combining_class c ≡ 0
-  passes_class = grind (arith, nat_tests)
-
-  pub passes_yes : quick_check (kit_form f) c ≡ Yes
-  passes_yes = is_yes-true _ (grind arith)
+-- of what passes the quick check says yes
+pub passes_yes : (f : Form) (c : ℕ) → IsTrue (passes_check f c) → quick_check (kit_form f) c ≡ Yes
+passes_yes f c passes = is_yes-true _ (grind arith)
 
 module _ (seen : Seen) (here : Sees seen) where
   pub chars-seen : chars seen.text.now ≡ seen.character ∷ chars seen.after.now

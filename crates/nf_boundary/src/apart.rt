@@ -57,8 +57,8 @@ fn take_apart<'t>(form: Form, first: Seen<'t>, formed: &mut Formed) -> Option<Se
     Some(next)
 }
 
-/// Whether the first byte leaves it open that a character comes first which a form that decomposes changes: it does of most
-/// letters of Latin with marks, of kana and of Hangul.
+/// Whether the first byte begins many characters that a form that decomposes changes: letters of Latin with marks, kana, Hangul.
+/// Of Cyrillic and Arabic it changes few.
 #[inline(always)]
 fn may_change(text: &str) -> bool {
     let bytes = text.as_bytes();
