@@ -1,8 +1,8 @@
 -- What a text begins with, by its bytes.
-use Rattle.std.proofs.Common.{◌≡◌, ℕ, ◌+◌, ◌*◌, ◌%◌, ◌<◌, ◌≤◌, ◌⊎◌, ⊎_elim, inl, inr, List, [], ◌∷◌, ◌++◌, length, slice_index, drop, drop_at, refl, sym, arith, append-nil}
-use Rattle.std.specs.Prelude.{encode_utf8, encode_utf8_all}
+use Rattle.std.proofs.Common.{◌≡◌, ℕ, ◌+◌, ◌*◌, ◌%◌, ◌<◌, ◌≤◌, ◌⊎◌, ⊎_elim, inl, inr, List, [], ◌∷◌, ◌++◌, length, slice_index, take, take_at, drop, drop_at, refl, sym, arith, append-nil, append_assoc, length-append}
+use Rattle.std.specs.Prelude.{chars as chars_of, encode_utf8, encode_utf8_all}
 use Rattle.std.specs.Str.{IsUtf8, IsCharBoundary, all_scalars}
-use Rattle.std.proofs.lemmas.Str.{IsCharBoundary-at_seam}
+use Rattle.std.proofs.lemmas.Str.{IsCharBoundary-at_seam, IsUtf8-take, chars_from_encodes, encodes-append}
 use lib.Utf8.{scalar, scalar_cases}
 use Rattle.std.proofs.str.Laws.{order, one, two, three, four}
 use Rattle.std.proofs.lemmas.Bool.{and_parts}
@@ -18,6 +18,21 @@ module _ (text chars : List ℕ) (len : ℕ) (begins : BeginsWith text chars len
 
   pub rest_is : drop len text ≡ begins.rest
   rest_is = rw begins.split (drop_at (encode_utf8_all chars) begins.rest len (sym begins.is_long))
+
+  pub goes_on : (next : List ℕ) (more : ℕ) → BeginsWith (drop len text) next more → BeginsWith text (chars ++ next) (len + more)
+  goes_on next more after = record {
+    rest = after.rest;
+    split = rw (encodes-append, append_assoc, ← after.split, rest_is) begins.split;
+    rest_utf8 = after.rest_utf8;
+    is_long = rw (encodes-append, length-append) (omega (arith, begins.is_long, after.is_long));
+  }
+
+  -- what stands up to there is these characters
+  pub front_is : encode_utf8_all chars ≡ take len text
+  front_is = rw begins.split (sym (take_at (encode_utf8_all chars) begins.rest len (sym begins.is_long)))
+
+  pub chars_are : IsUtf8 text → chars ≡ chars_of (take len text)
+  chars_are u = chars_from_encodes chars (take len text) (IsUtf8-take text len u boundary) front_is
 
 -- it begins with this code point, in so many bytes
 pub record HasCode (text : List ℕ) (n code : ℕ) : Type 0 where

@@ -1,5 +1,5 @@
 -- Text of which runs are short, from one starter to another.
-use Rattle.std.proofs.Common.{◌≡◌, ℕ, ◌+◌, ◌-◌, ◌<◌, ◌≤◌, ◌==◌, ◌&&◌, ⊎_elim, true, not, List, [], ◌∷◌, ◌++◌, length, take, drop, refl, sym, ap, arith, append-nil, append_assoc, length-append, length-drop, length-take-le, take_at, take-append-drop, eqb-true}
+use Rattle.std.proofs.Common.{◌≡◌, ℕ, ◌+◌, ◌-◌, ◌<◌, ◌≤◌, ◌==◌, ◌&&◌, ⊎_elim, true, not, List, [], ◌∷◌, ◌++◌, length, take, drop, refl, sym, ◌∙◌, arith, append-nil, append_assoc, length-drop, length-take-le, take-append-drop, eqb-true}
 use Rattle.std.specs.Prelude.{chars, encode_utf8, encode_utf8_all}
 use Rattle.std.specs.List.{list_all}
 use Rattle.std.specs.Str.{IsUtf8, IsCharBoundary, all_scalars}
@@ -10,21 +10,27 @@ use Rattle.std.proofs.lemmas.Bool.Decides.{nat_tests}
 use Rattle.std.proofs.lemmas.List.{get_or-drop}
 use Rattle.std.proofs.lemmas.Nat.{and_le_l}
 use Rattle.std.proofs.lemmas.List.Folds.{list_all-append}
-use Rattle.std.proofs.lemmas.Str.{encodes-append, encodes-chars, length-encode, len_utf8_bounds, chars_from_encodes, chars_past_char, scalars-chars, IsUtf8-drop, IsUtf8-take}
+use Rattle.std.proofs.lemmas.Str.{encodes-chars, scalars-chars, IsUtf8-drop, IsUtf8-take}
 use Rattle.ucd_table.proofs.TrieCheck.{all_below, all_below-at}
 use Rattle.nf_lanes.specs.Sets.{byte_sets, pair_sets}
 use Rattle.nf_forms.specs.Forms.{decomposed}
-use Rattle.nf_forms.specs.Laws.Runs.{has_starter-append, lead-append, longest-append, lead-marks}
+use Rattle.nf_forms.specs.Laws.Runs.{has_starter-append, lead-append, trail-append, longest-append, lead-marks}
 use Rattle.nf_forms.specs.Laws.StreamSafe.{decomposed-append}
-use Rattle.nf_forms.specs.Runs.{has_starter, lead, longest}
+use Rattle.nf_forms.specs.Runs.{has_starter, lead, longest, trail}
 use Rattle.nf_forms.specs.Sound.{is_sound}
 use Rattle.nf_forms.specs.Ucd.{ucd}
 use Rattle.nf_forms.specs.declared.form.Form.TheVariants.{Nfkd}
-use Rattle.nf_counts.specs.Piece.{IsPiece}
-use Rattle.nf_counts.specs.Safe.{HasShortRuns, IsSafeFront, IsShortTo, StandsAt}
+use Rattle.nf_counts.specs.Counts.{HasCounts}
+use Rattle.nf_counts.specs.Piece.{BeginsWith, IsPiece}
+use Rattle.nf_counts.specs.declared.counts.Counts.{Counts}
+use Rattle.nf_counts.specs.declared.piece.Piece.{Piece}
+use Rattle.nf_counts.specs.declared.safe.SafeFront.{SafeFront}
+use Rattle.nf_counts.specs.declared.scan.Scan.{Scan}
+use Rattle.nf_counts.specs.Scan.{Reaches}
+use Rattle.nf_counts.specs.Safe.{EndsAfter, HasShortRuns, IsSafeFront, IsShortTo, StandsAt}
 use Rattle.nf_counts.specs.declared.starts.TheConstants.{PAIRS}
 use Rattle.nf_counts.specs.Starts.{lead_starts, starts, starts_at}
-use Rattle.nf_counts.proofs.PieceLemmas.{rest_is}
+use Rattle.nf_counts.proofs.PieceLemmas.{chars_are, goes_on as goes_past}
 use Rattle.nf_counts.proofs.StartLemmas.{begins, few_in, longest-le-count}
 
 -- ASCII starts, and no later byte of a character does
@@ -126,11 +132,11 @@ module _ (sound : (c : ℕ) → is_sound ucd c ≡ true) where
         let spells : encode_utf8_all (chars (take len others)) ≡ take len others = encodes-chars _ (IsUtf8-take others len others_utf8 cut) in
         record {
           front = before.front ++ chars (take len others);
-          begins = record {
+          begins = goes_past _ _ _ before.begins (chars (take len others)) len record {
             rest = drop len others;
-            split = rw (encodes-append, append_assoc, spells, take-append-drop, rest_is _ _ _ before.begins) before.begins.split;
+            split = rw (spells, take-append-drop) refl;
             rest_utf8 = IsUtf8-drop others len others_utf8 cut;
-            is_long = rw (encodes-append, length-append, spells, long) (ap (λ n. n + len) before.begins.is_long);
+            is_long = rw spells (sym long);
           };
           short = goes_on before.front (chars (take len others)) len before.short started_at few;
         }
@@ -146,24 +152,75 @@ module _ (sound : (c : ℕ) → is_sound ucd c ≡ true) where
       (λ more. record { before = rw whole at (short_to text at len u stands cut (omega (arith, more)) (omega (arith, few))); within = within; starts = is })
       (order next (at + 1))
 
-  -- a text in four, where the third part is the character that begins at such a place
-  pub is_safe : (before text : List ℕ) (at c : ℕ) (rest : List ℕ) → IsUtf8 text → StandsAt ucd text at → drop at text ≡ encode_utf8 c ++ rest → IsSafeFront ucd (before ++ text) before (take at text) c rest
-  is_safe before text at c rest u stands e =
-      let begins = stands.before.begins in
-      let front = stands.before.front in
-      let bytes = encode_utf8_all front in
-      let from = boundary text at stands.within stands.starts in
-      let zero : at + 0 ≡ at = omega arith in
-      let here : starts_at (encode_utf8 c ++ rest) 0 ≡ true = simp (← e, get_or-drop, zero) stands.starts in
-      let is = chars_past_char (drop at text) rest c (IsUtf8-drop text at u from) e in
-      let scalars = and_parts (scalar c) (all_scalars (chars rest)) (rw is at (scalars-chars (drop at text) (IsUtf8-drop text at u from))) in
-      let spelled : bytes ≡ take at text = rw begins.split (sym (take_at bytes begins.rest at (sym begins.is_long))) in
-      let same : front ≡ chars (take at text) = chars_from_encodes front (take at text) (IsUtf8-take text at u from) spelled in
-      let alone : encode_utf8_all (c ∷ []) ≡ encode_utf8 c = append-nil (encode_utf8 c) in
-      let bounds = len_utf8_bounds c in
-      let last : IsStarted (c ∷ []) (length (encode_utf8 c)) = rw alone at (started (c ∷ []) rest (grind (arith, scalars.0)) (rw alone (omega (arith, length-encode c, bounds))) (rw alone here)) in
+-- up to the end of what begins with a starter there
+pub ends_after : (text : List ℕ) (at : ℕ) (piece : Piece) (counts : Counts) → StandsAt ucd text at → (is : IsPiece ucd (drop at text) piece) → HasCounts ucd (decomposed Nfkd ucd is.chars) counts → counts.has_starter ≡ true
+    → EndsAfter ucd text (at + piece.len) counts.trail
+ends_after text at piece counts stands is has some =
+    let before = stands.before in
+    let w = decomposed Nfkd ucd before.front in
+    let v = decomposed Nfkd ucd is.chars in
+    let short = before.short in
+    let first : lead ucd v ≡ 0 = grind (arith, nat_tests, is.row.lead, is.row.has_starter, has.has_starter, some) in
+    record {
+      front = before.front ++ is.chars;
+      begins = goes_past _ _ _ before.begins is.chars piece.len is.begins;
+      short = record {
+        sound = rw (list_all-append, short.sound, is.sound);
+        lead = rw decomposed-append (grind (arith, nat_tests, lead-append ucd w v, lead-marks ucd w, short.lead, first));
+        longest = rw decomposed-append (grind (arith, nat_tests, longest-append ucd w v, rw append-nil at (longest-append ucd w []), short.longest, first, is.row.longest));
+      };
+      some = rw decomposed-append (grind (arith, nat_tests, has_starter-append ucd w v, has.has_starter, some));
+      trail = rw decomposed-append (grind (arith, nat_tests, trail-append ucd w v, has.has_starter, has.trail, some));
+    }
+
+-- a front of these characters
+module _ (room : ℕ) (text xs : List ℕ) (len : ℕ) (begins : BeginsWith text xs len) (u : IsUtf8 text) where
+  abbrev w : List ℕ
+  w = decomposed Nfkd ucd xs
+
+  pub safe_is : (safe : SafeFront) → safe.front.now ≡ take len text → safe.rest.now ≡ drop len text → list_all (is_sound ucd) xs ≡ true → longest ucd w ≤ 30
+      → safe.has_starter ≡ has_starter ucd w → safe.lead ≡ lead ucd w → safe.trail ≡ trail ucd w → safe.lead ≤ room → IsSafeFront ucd room text safe
+  safe_is safe front rest sound long some first last leads =
+      let same : chars safe.front.now ≡ xs = rw front (sym (chars_are text xs len begins u)) in
       record {
-        split = rw (← e, take-append-drop) refl;
-        short = rw (← same) (goes_on front (c ∷ []) _ stands.before.short last (omega (arith, length-encode c, bounds)));
-        some = last.some;
+        split = rw (front, rest, take-append-drop);
+        sound = rw same sound;
+        longest = rw same long;
+        has_starter = rw same some;
+        lead = rw same first;
+        trail = rw same last;
+        leads = leads;
       }
+
+-- a front that is counted, and one after it that begins with a starter
+module _ (room : ℕ) (scan : Scan) (text : List ℕ) (same : scan.text.now ≡ text) (here : Reaches ucd room scan) where
+  begins_text : BeginsWith text here.front scan.at
+  begins_text = rw same at here.begins
+
+  utf8 : IsUtf8 text
+  utf8 = rw same at here.utf8
+
+  pub counted_safe : (safe : SafeFront) → safe.front.now ≡ take scan.at text → safe.rest.now ≡ drop scan.at text
+      → safe.has_starter ≡ scan.counts.has_starter → safe.lead ≡ scan.counts.lead → safe.trail ≡ scan.counts.trail → IsSafeFront ucd room text safe
+  counted_safe safe front rest some first last =
+      let has = here.counts in
+      safe_is room text here.front scan.at begins_text utf8 safe front rest here.sound (omega (arith, has.longest, scan.counts.longest_within)) (some ∙ has.has_starter) (first ∙ has.lead) (last ∙ has.trail) (omega (arith, first, here.leads))
+
+  module _ (len marks : ℕ) (end : EndsAfter ucd (drop scan.at text) len marks) where
+    pub ended_begins : BeginsWith text (here.front ++ end.front) (scan.at + len)
+    ended_begins = goes_past _ _ _ begins_text end.front len end.begins
+
+    pub ended_safe : (safe : SafeFront) → safe.front.now ≡ take (scan.at + len) text → safe.rest.now ≡ drop (scan.at + len) text
+        → safe.has_starter ≡ true → safe.lead ≡ scan.counts.lead → safe.trail ≡ marks → IsSafeFront ucd room text safe
+    ended_safe safe front rest some first last =
+        let w = decomposed Nfkd ucd here.front in
+        let v = decomposed Nfkd ucd end.front in
+        let has = here.counts in
+        let short = end.short in
+        safe_is room text (here.front ++ end.front) (scan.at + len) ended_begins utf8 safe front rest
+        (rw (list_all-append, here.sound, short.sound))
+        (rw decomposed-append (omega (arith, longest-append ucd w v, rw append-nil at (longest-append ucd w []), has.longest, scan.counts.longest_within, short.lead, short.longest)))
+        (rw decomposed-append (grind (arith, nat_tests, has_starter-append ucd w v, end.some, some)))
+        (rw decomposed-append (grind (arith, nat_tests, lead-append ucd w v, lead-marks ucd w, has.lead, first, short.lead)))
+        (rw decomposed-append (grind (arith, nat_tests, trail-append ucd w v, end.some, end.trail, last)))
+        (omega (arith, first, here.leads))

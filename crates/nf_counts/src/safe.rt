@@ -1,11 +1,15 @@
 //! A front of a text in which no run of non-starters is long, by its bytes: no character has more non-starters than bytes, so that
 //! none is where starters begin no more than 30 bytes apart.
 
-ghost use Rattle.std.specs.Prelude.{◌≡◌, ◌<◌, ◌≤◌, ◌+◌, true, length, IfSome};
+ghost use Rattle.std.specs.Prelude.{◌≡◌, ◌<◌, ◌≤◌, ◌+◌, true, length, drop, IfSome};
+ghost use Rattle.std.specs.Str.{IsCharBoundary};
 ghost use Rattle.nf_forms.specs.Ucd.{ucd};
-ghost use Rattle.nf_counts.specs.Safe.{IsSafeFront, StandsAt};
+ghost use Rattle.nf_counts.specs.Safe.{EndsAfter, IsSafeFront, StandsAt};
 ghost use Rattle.nf_counts.specs.Starts.{starts_at};
 
+use crate::counts::Counts;
+use crate::piece::first_piece;
+use crate::scan::Scan;
 use crate::starts::{before_any_start, before_next_start};
 use nf_facts::laws;
 use nf_lanes::LANES;
@@ -14,35 +18,93 @@ use nf_utf8::ascii_prefix;
 /// So many times pairs are asked at once after lead bytes told nothing: that they may again is not to be guessed each time.
 const PAIRED_STEPS: u8 = 8;
 
-/// A text in four: what stands before a starter, a front from there on that is in the Stream-Safe Text Format (UAX #15, section
-/// 13), its last character, a starter too, and the rest.
+/// A text in two: a front that is in the Stream-Safe Text Format (UAX #15, section 13), and the rest.
 #[derive(Clone, Copy, Debug)]
 pub struct SafeFront<'t> {
-    /// No more than 30 bytes.
-    pub before: &'t str,
-    pub settled: &'t str,
-    /// That character. The count of non-starters begins anew before it.
-    pub last: char,
+    pub front: &'t str,
     pub rest: &'t str,
+    /// How many non-starters stand before the first starter of the front's compatibility decomposition, and how many after the
+    /// last; all of them where there is none.
+    pub lead: u32,
+    pub trail: u32,
+    pub has_starter: bool,
 }
 
-/// A front of the text, after what stands before its first starter, of which bytes tell that its compatibility decomposition has
-/// no more than 30 non-starters in a row, and none before the first starter, for the data of the Unicode Character Database. None
-/// where there is little.
-pub fn safe_front(text: &str) -> Option<SafeFront<'_>>
-    ensures { IfSome result (λ safe. IsSafeFront ucd text.now safe.before.now safe.settled.now safe.last safe.rest.now) }
+impl<'t> SafeFront<'t> {
+    ghost use Rattle.nf_forms.specs.Properties.{Properties};
+    ghost use Rattle.std.specs.Prelude.{ℕ};
+
+    /// Nothing is known of the text.
+    #[inline]
+    pub fn none(text: &'t str) -> SafeFront<'t>
+        ensures { (p : Properties) (room : ℕ) → IsSafeFront p room text.now result }
+    {
+        SafeFront {
+            front: "",
+            rest: text,
+            lead: 0,
+            trail: 0,
+            has_starter: false,
+        }
+    }
+}
+
+/// Where no starter is found so many bytes are counted before one is looked for again.
+const WINDOW_LEN: usize = 256;
+
+/// A front of the text in which no run of non-starters is long, nor more than `room` before the first starter, for the data of
+/// the Unicode Character Database. What stands before the first starter is counted, and then bytes tell how far none is long.
+pub fn safe_front(room: u32, text: &str) -> SafeFront<'_>
+    ensures { IsSafeFront ucd room text.now result }
 {
-    laws::every_character_is_sound();
-    let (before, others) = text.split_at(first_start(text.as_bytes())?);
-    let (settled, others) = others.split_at(last_start(others));
-    let mut chars = others.chars();
-    let last = chars.next()?;
-    Some(SafeFront {
-        before,
-        settled,
-        last,
-        rest: chars.as_str(),
-    })
+    let start = first_start(text.as_bytes());
+    let mut scan = Scan::new(text);
+    scan.pass_to(start.unwrap_or(WINDOW_LEN.min(text.len())), room);
+    let Counts {
+        lead,
+        trail,
+        has_starter,
+        ..
+    } = scan.counts;
+    let Some((len, last)) = last_end(text, scan.at, start) else {
+        let (front, rest) = text.split_at(scan.at);
+        return SafeFront {
+            front,
+            rest,
+            lead,
+            trail,
+            has_starter,
+        };
+    };
+    let (front, rest) = text.split_at(scan.at + len);
+    SafeFront {
+        front,
+        rest,
+        lead,
+        trail: last,
+        has_starter: true,
+    }
+}
+
+/// How far there is no long run from a place on, if a starter is found there: up to after the last one that is found; and how many
+/// non-starters that ends in.
+#[inline(always)]
+fn last_end(text: &str, at: usize, start: Option<usize>) -> Option<(usize, u32)>
+    requires boundary { IsCharBoundary text.now at }
+    requires starts { IfSome start (λ place. (place < length text.now) × (starts_at text.now place ≡ true)) }
+    ensures { IfSome result (λ end. EndsAfter ucd (drop at text.now) end.0 end.1) }
+{
+    if start != Some(at) {
+        return None;
+    }
+    let others = &text[at..];
+    let last = last_start(others);
+    let piece = first_piece(&others[last..]);
+    let mut counts = Counts::new();
+    if !counts.add(piece.value, 0) || !counts.has_starter {
+        return None;
+    }
+    Some((last + piece.len, counts.trail))
 }
 
 /// The place of the first starter that is found in the first 31 bytes.

@@ -38,17 +38,17 @@ impl<'t> Scan<'t> {
         }
     }
 
-    /// Goes on as far as no run gets too long, and no more than `room` non-starters stand before the first
-    /// starter.
+    /// Goes on until so many bytes stand before the place, as far as no run gets too long, and no more than `room` non-starters
+    /// stand before the first starter.
     #[inline(always)]
-    pub fn pass_all(&mut self, room: u32)
+    pub fn pass_to(&mut self, to: usize, room: u32)
         requires reaches { Reaches ucd room self.old }
+        requires within { to ≤ length self.old.text.now }
         ensures text { self.new.text.now ≡ self.old.text.now }
         ensures reaches { Reaches ucd room self.new }
     {
-        let len = self.text.len();
-        if self.pass_pieces(PIECEWISE_LEN.min(len), room) && self.pass_windows(room) {
-            self.pass_pieces(len, room);
+        if self.pass_pieces(PIECEWISE_LEN.min(to), room) && self.pass_windows(to, room) {
+            self.pass_pieces(to, room);
         }
     }
 
@@ -70,14 +70,15 @@ impl<'t> Scan<'t> {
 
     /// Goes on by windows, as far as there are bytes for one; answers whether there may be more.
     #[inline(always)]
-    fn pass_windows(&mut self, room: u32) -> bool
+    fn pass_windows(&mut self, to: usize, room: u32) -> bool
         requires reaches { Reaches ucd room self.old }
+        requires within { to ≤ length self.old.text.now }
         ensures text { self.new.text.now ≡ self.old.text.now }
         ensures reaches { Reaches ucd room self.new }
     {
         let text = self.text;
         let mut base = self.at;
-        while text.len() - base > 64 {
+        while to.saturating_sub(base) > 64 {
             if !self.pass_window(base, room) {
                 return false;
             }

@@ -15,37 +15,36 @@ fn among_letters(place: usize, c: char) -> [u8; 96] {
     bytes
 }
 
-/// How many bytes a front has, without its last character; none is 0.
-fn settled_len(bytes: &[u8]) -> usize {
-    let Ok(text) = str::from_utf8(bytes) else {
-        return 0;
-    };
-    safe_front(text).map_or(0, |safe| safe.settled.len())
-}
-
-/// How many bytes stand before a front.
-fn before_len(bytes: &[u8]) -> Option<usize> {
+/// How many bytes a front has, and how many non-starters it begins with, of which no more than `room` may.
+fn front_of(room: u32, bytes: &[u8]) -> Option<(usize, u32)> {
     let text = str::from_utf8(bytes).ok()?;
-    Some(safe_front(text)?.before.len())
+    let safe = safe_front(room, text);
+    Some((safe.front.len(), safe.lead))
 }
 
-/// Each character is passed over among letters; and a front begins with it, or after it, where its row has no starter first.
+/// Each character is passed over among letters, and before them, where it begins with as many non-starters as its row.
 #[test]
 fn each_character_among_letters(rt: HostRuntime) -> Result<(), Fail> {
     for code in 0..0x11_0000u32 {
         let Some(c) = char::from_u32(code) else {
             continue;
         };
-        let after = 20usize.saturating_add(c.len_utf8());
-        assert!(rt; settled_len(&among_letters(20, c)) > after, "{code:x}");
+        assert_eq!(rt;
+            front_of(0, &among_letters(20, c)),
+            Some((96, 0)),
+            "{code:x}"
+        );
         let mut room = [c; 3];
-        let row = lookup::decomposition(c, Form::Nfkd, &mut room);
-        let begins = row
-            .first()
-            .is_some_and(|d| lookup::canonical_combining_class(*d) == 0);
-        let before = before_len(&among_letters(0, c));
-        assert!(rt;
-            before == Some(c.len_utf8()) || begins && before == Some(0),
+        let mut lead = 0u32;
+        for member in lookup::decomposition(c, Form::Nfkd, &mut room) {
+            if lookup::canonical_combining_class(*member) == 0 {
+                break;
+            }
+            lead = lead.saturating_add(1);
+        }
+        assert_eq!(rt;
+            front_of(30, &among_letters(0, c)),
+            Some((96, lead)),
             "{code:x}"
         );
     }
@@ -61,23 +60,28 @@ fn starters_stand_no_more_than_30_bytes_apart(rt: HostRuntime) -> Result<(), Fai
             for pair in bytes[before..].chunks_exact_mut(2).take(count) {
                 pair.copy_from_slice("\u{316}".as_bytes());
             }
-            let len = settled_len(&bytes);
-            assert_eq!(rt; len >= before, count <= 14, "{before} {count}");
+            let len = if count <= 14 { 160 } else { before };
+            assert_eq!(rt; front_of(0, &bytes), Some((len, 0)), "{before} {count}");
         }
     }
     Ok(())
 }
 
-/// A front begins at the first letter after marks of two bytes, of which there are no more than 15.
+/// Marks that a text begins with are counted, as many as there may be.
 #[test]
-fn a_front_begins_after_marks(rt: HostRuntime) -> Result<(), Fail> {
+fn a_front_begins_with_marks(rt: HostRuntime) -> Result<(), Fail> {
     for count in 0..20usize {
         let mut bytes = [b'a'; 96];
         for pair in bytes.chunks_exact_mut(2).take(count) {
             pair.copy_from_slice("\u{316}".as_bytes());
         }
-        let expected = if count <= 15 { Some(2 * count) } else { None };
-        assert_eq!(rt; before_len(&bytes), expected, "{count}");
+        assert_eq!(rt; front_of(30, &bytes), Some((96, count as u32)), "{count}");
+        let few = if count <= 10 { 96 } else { 20 };
+        assert_eq!(rt;
+            front_of(10, &bytes),
+            Some((few, count.min(10) as u32)),
+            "{count}"
+        );
     }
     Ok(())
 }

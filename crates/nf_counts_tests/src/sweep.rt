@@ -143,23 +143,17 @@ const SOME: [char; 32] = [
     '\u{10FFFF}',
 ];
 
-/// Whether the front of which bytes tell that it is in the format is so, of the text that is of these characters.
-fn is_safe(text: &str, chars: &[char]) -> bool {
-    let Some(safe) = safe_front(text) else {
-        return true;
-    };
-    let Some(from_front) = chars.get(safe.before.chars().count()..) else {
+/// Whether the front of which bytes tell that it is in the format is so, and begins and ends as they tell, of the text that is of
+/// these characters.
+fn is_safe(room: u32, text: &str, chars: &[char]) -> bool {
+    let safe = safe_front(room, text);
+    let Some(front) = chars.get(..safe.front.chars().count()) else {
         return false;
     };
-    let (count, _) = counted_plainly(0, from_front);
-    let settled = safe.settled.chars().count();
-    let len = safe.before.len().saturating_add(safe.settled.len());
-    settled < count
-        && from_front.get(settled) == Some(&safe.last)
-        && text.len()
-            == len
-                .saturating_add(safe.last.len_utf8())
-                .saturating_add(safe.rest.len())
+    let (count, (_, _, lead, trail, has_starter, _)) = counted_plainly(room, front);
+    count == front.len()
+        && (lead, trail, has_starter) == (safe.lead, safe.trail, safe.has_starter)
+        && text.len() == safe.front.len().saturating_add(safe.rest.len())
 }
 
 /// Up to 200 characters, drawn from some, each a few times in a row, so that there are runs of ASCII and of marks.
@@ -194,7 +188,7 @@ fn fronts_are_counted_as_their_characters(rt: HostRuntime) -> Result<(), Fail> {
         assert_eq!(rt; counted.front.chars().count(), count, "{turn} {text}");
         assert_eq!(rt; counts_of(&counted), counts, "{turn} {text}");
         assert_eq!(rt; counted.front.len().saturating_add(counted.rest.len()), len);
-        assert!(rt; is_safe(text, &chars), "{turn} {text}");
+        assert!(rt; is_safe(room, text, &chars), "{turn} {text}");
     }
     Ok(())
 }

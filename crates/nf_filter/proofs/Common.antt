@@ -64,7 +64,7 @@ pub use Rattle.nf_forms.specs.declared.form.Form.TheVariants.{Nfc, Nfd, Nfkd}
 pub use Rattle.nf_normalizer.specs.Laws.Settled.{usable-all, Extends, Extends-encodes, usable-stop, is_usable-push, Extends-none, settled-extends, is_usable-stays_out, usable-grows, usable-stays, is_usable-none, Extends-join, usable-extends}
 pub use Rattle.nf_normalizer.specs.Normalizer.{IsWithin}
 pub use Rattle.nf_normalizer.specs.Room.{Start as Given}
-pub use Rattle.nf_safe.specs.Checker.{place_of, CountsFromEnd}
+pub use Rattle.nf_safe.specs.Checker.{place_of}
 pub use Rattle.nf_safe.specs.Laws.Pieces.{in_format-unchanged, cut-some, sound-source, stream_safe-cut, stream_safe-in_format}
 pub use Rattle.nf_safe.specs.Measurer.{refusal, unsound_at}
 pub use Rattle.nf_safe.specs.Place.{is_in_format, place_from}

@@ -1,13 +1,13 @@
 -- A checker's steps.
-use Rattle.nf_safe.proofs.Common.{◌≡◌, ℕ, ◌+◌, ◌≤◌, true, false, not, List, [], ◌∷◌, ◌++◌, length, Some, None, is_some, encode_utf8, encode_utf8_all, sym, ap, ◌∙◌, arith, append_assoc, if◌then◌else◌, length-append, encodes-append, cond-true, cond-false, run-after, Properties, Nfkd, trail, decomposed, is_sound, passes, count_step, is_in_format, place_from, count_step-within, trail-decomposed-counted, is_in_format-push, is_in_format-join, is_in_format-short, trail-in_format, decomposed-append, max_run, place_from-in_format, place_from-at, place_from-stays}
+use Rattle.nf_safe.proofs.Common.{◌≡◌, ℕ, ◌+◌, ◌≤◌, true, false, not, List, [], ◌∷◌, ◌++◌, length, Some, None, is_some, encode_utf8, encode_utf8_all, sym, ap, ◌∙◌, arith, if◌then◌else◌, length-append, encodes-append, cond-true, cond-false, Properties, Nfkd, trail, decomposed, is_sound, passes, count_step, is_in_format, place_from, count_step-within, trail-decomposed-counted, is_in_format-push, is_in_format-join, is_in_format-short, decomposed-append, max_run, place_from-in_format, place_from-at, place_from-stays}
 use Rattle.std.specs.Prelude.{IsNone, chars}
-use Rattle.nf_counts.specs.Counts.{IsCountedFront}
-use Rattle.nf_counts.specs.declared.counted.Counted.{Counted}
+use Rattle.nf_counts.specs.Safe.{IsSafeFront}
+use Rattle.nf_counts.specs.declared.safe.SafeFront.{SafeFront}
 use Rattle.nf_safe.proofs.CountedLemmas.{IsFront}
-use Rattle.nf_safe.proofs.RunsLemmas.{trail-counted}
+use Rattle.nf_safe.proofs.RunsLemmas.{trail-after}
 use Rattle.nf_safe.specs.declared.place.Place.{Place}
 use Rattle.nf_safe.specs.declared.checker.Checker.{Checker}
-use Rattle.nf_safe.specs.Checker.{place_of, StandsAfter, HasSeen, CountsFromEnd}
+use Rattle.nf_safe.specs.Checker.{place_of, StandsAfter, HasSeen}
 
 -- while the text is in the format
 pub stands_on : {base : ℕ} {p : Properties} {checker : Checker} {x : List ℕ} → checker.is_over ≡ false → is_in_format p x ≡ true → checker.reached.chars ≡ length x
@@ -52,14 +52,13 @@ module _ {base : ℕ} {p : Properties} {old : Checker} {x : List ℕ} (before : 
         (omega (arith, before.offset none, ap length (encodes-append x (c ∷ [])), length-append (encode_utf8_all x) (encode_utf8 c ++ []), length-append (encode_utf8 c) []))
         (rw (trail-decomposed-counted p x c, ← before.count none, ← count_step-within p old.counter (p.compat c) short) count)
 
--- after a front of which the non-starters are counted
-pub goes_on-counted : {base : ℕ} {p : Properties} {old new : Checker} {x : List ℕ} {room : ℕ} {text : List ℕ} {counted : Counted} → StandsAfter base p old x → IsCountedFront p room text counted → IsFront p text counted
-    → old.counter + counted.counts.lead ≤ max_run → place_of old ≡ None → new.is_over ≡ old.is_over → new.reached.chars ≡ old.reached.chars + length (chars counted.front.now)
-    → new.reached.bytes ≡ old.reached.bytes + length counted.front.now → new.counter ≡ (if counted.counts.has_starter then counted.counts.trail else old.counter + counted.counts.lead) → HasSeen base p new x text counted.rest.now
-goes_on-counted {base} {p} {old} {new} {x} {room} {text} {counted} before is at short on same chars_are bytes count =
+-- after a front that is in the format
+pub goes_on-safe : {base : ℕ} {p : Properties} {old new : Checker} {x : List ℕ} {room : ℕ} {text : List ℕ} {safe : SafeFront} → StandsAfter base p old x → IsSafeFront p room text safe → IsFront p text safe.front.now safe.rest.now
+    → old.counter + safe.lead ≤ max_run → place_of old ≡ None → new.is_over ≡ old.is_over → new.reached.chars ≡ old.reached.chars + length (chars safe.front.now)
+    → new.reached.bytes ≡ old.reached.bytes + length safe.front.now → new.counter ≡ (if safe.has_starter then safe.trail else old.counter + safe.lead) → HasSeen base p new x text safe.rest.now
+goes_on-safe {base} {p} {old} {new} {x} {room} {text} {safe} before is at short on same chars_are bytes count =
     let none = ap is_some on in
-    let y = chars counted.front.now in
-    let has = is.counts in
+    let y = chars safe.front.now in
     let here = is_in_format-join p x y (before.in_format none) (is_in_format-short p y (omega arith)) (omega (arith, before.count none)) in
     record {
       front = y;
@@ -68,17 +67,5 @@ goes_on-counted {base} {p} {old} {new} {x} {room} {text} {counted} before is at 
       stands = stands_on (grind arith) here
           (omega (arith, before.chars none, length-append x y))
           (omega (arith, before.offset none, ap length at.bytes, ap length (encodes-append x y), length-append (encode_utf8_all x) (encode_utf8_all y)))
-          (count ∙ trail-counted (decomposed Nfkd p x) has (before.count none) ∙ ap (trail p) (sym (decomposed-append p Nfkd x y)));
+          (count ∙ trail-after p (decomposed Nfkd p x) (decomposed Nfkd p y) is.has_starter is.lead is.trail (before.count none) ∙ ap (trail p) (sym (decomposed-append p Nfkd x y)));
     }
-
--- one that began anew within the text, and has seen its end, stands where one that saw all of it does
-pub goes_on_from : {base : ℕ} {p : Properties} {old end new : Checker} {x y z : List ℕ} → StandsAfter base p old x → StandsAfter (base + length (encode_utf8_all (x ++ y))) p end z
-    → CountsFromEnd p y z → place_of old ≡ None → place_of end ≡ None → new.is_over ≡ old.is_over → new.reached.chars ≡ old.reached.chars + length (y ++ z)
-    → new.reached.bytes ≡ end.reached.bytes → new.counter ≡ end.counter → StandsAfter base p new (x ++ (y ++ z))
-goes_on_from {base} {p} {old} {end} {new} {x} {y} {z} before after anew on alone same chars bytes count =
-    let none = ap is_some on in
-    let inside = before.in_format none in
-    stands_on (grind arith) (is_in_format-join p x (y ++ z) inside anew.in_format (omega (arith, trail-in_format p x inside)))
-    (omega (arith, before.chars none, length-append x (y ++ z)))
-    (omega (arith, after.offset (ap is_some alone), ap (λ w. length (encode_utf8_all w)) (append_assoc x y z), ap length (encodes-append (x ++ y) z), length-append (encode_utf8_all (x ++ y)) (encode_utf8_all z)))
-    (count ∙ after.count (ap is_some alone) ∙ sym (ap (λ w. trail p (decomposed Nfkd p w)) (sym (append_assoc x y z)) ∙ run-after p (x ++ y) z anew.some))

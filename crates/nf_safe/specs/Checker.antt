@@ -4,7 +4,7 @@ use Rattle.std.specs.List.{list_all}
 use Rattle.nf_forms.specs.Properties.{Properties}
 use Rattle.nf_forms.specs.Sound.{is_sound}
 use Rattle.nf_forms.specs.declared.form.Form.TheVariants.{Nfkd}
-use Rattle.nf_forms.specs.Runs.{has_starter, lead, trail}
+use Rattle.nf_forms.specs.Runs.{trail}
 use Rattle.nf_forms.specs.Forms.{decomposed}
 use Rattle.nf_safe.specs.declared.place.Place.{Place}
 use Rattle.nf_safe.specs.declared.checker.Checker.{Checker}
@@ -32,9 +32,3 @@ pub record HasSeen (base : ℕ) (p : Properties) (checker : Checker) (x text res
   pub is_front : chars text ≡ front ++ chars rest
   pub sound : list_all (is_sound p) front ≡ true
   pub stands : StandsAfter base p checker (x ++ front)
-
--- y and z together are in the format, and the count begins anew at their start and at that of z
-pub record CountsFromEnd (p : Properties) (y z : List ℕ) : Type 0 where
-  pub in_format : IsTrue (is_in_format p (y ++ z))
-  pub lead : lead p (decomposed Nfkd p (y ++ z)) ≡ 0
-  pub some : has_starter p (decomposed Nfkd p z) ≡ true

@@ -1,7 +1,7 @@
 ghost use Rattle.std.specs.Prelude.{◌≤◌};
 
 use crate::counter::Counter;
-use crate::fronts::counted_front;
+use crate::fronts::safe_front;
 use crate::place::Place;
 use nf_row::{RowRoom, Rows, Rule, Unsound, sound_row};
 use nf_utf8::char_count;
@@ -22,7 +22,7 @@ impl Checker {
     ghost use Rattle.nf_forms.specs.Sound.{is_sound};
     ghost use Rattle.nf_forms.specs.StreamSafe.{stream_safe};
     ghost use Rattle.nf_forms.specs.Laws.Sound.{IsSoundText};
-    ghost use Rattle.nf_safe.specs.Checker.{place_of, offset_of, StandsAfter, HasSeen, CountsFromEnd};
+    ghost use Rattle.nf_safe.specs.Checker.{place_of, offset_of, StandsAfter, HasSeen};
 
     /// A checker at the start of a text, the first byte of which has the offset `base`.
     #[inline]
@@ -81,8 +81,8 @@ impl Checker {
         Ok(None)
     }
 
-    /// Sees the front of the text of which the non-starters are known by one look-up for each character (`counted_front`),
-    /// and at which the text does not leave the format. Answers what follows.
+    /// Sees a front of the text of which bytes, or one look-up for each character, tell that the text does not leave the format
+    /// there. Answers what follows.
     #[inline]
     pub fn see_counted<'t, R: Rows>(&mut self, rows: &R, text: &'t str) -> &'t str
         requires none { place_of self.old ≡ None }
@@ -93,32 +93,13 @@ impl Checker {
         ensures sees { let p = R.properties rows.now in
             (base : ℕ) (x : List ℕ) → StandsAfter base p self.old x → HasSeen base p self.new x text.now result.now }
     {
-        let counted = counted_front(rows, self.counter.room(), text);
-        self.counter.pass(&counted.counts);
+        let safe = safe_front(rows, self.counter.room(), text);
+        self.counter.pass(safe.lead, safe.trail, safe.has_starter);
         self.reached = Place {
-            chars: self.reached.chars + char_count(counted.front) as u64,
-            bytes: self.reached.bytes + counted.front.len() as u64,
+            chars: self.reached.chars + char_count(safe.front) as u64,
+            bytes: self.reached.bytes + safe.front.len() as u64,
         };
-        counted.rest
-    }
-
-    /// Goes on after `chars` more characters, all of them in the format: their last ones `end` has seen, and the count
-    /// begins anew before those. The others need not be seen.
-    #[inline]
-    pub fn go_on_from(&mut self, chars: u64, end: Checker)
-        requires none { place_of self.old ≡ None }
-        requires end { place_of end ≡ None }
-        requires fits { offset_of self.old + chars ≤ offset_of end }
-        ensures none { place_of self.new ≡ None }
-        ensures offset { offset_of self.new ≡ offset_of end }
-        ensures stands { (base : ℕ) (p : Properties) (x y z : List ℕ) → StandsAfter base p self.old x → chars ≡ length (y ++ z)
-            → CountsFromEnd p y z → StandsAfter (base + length (encode_utf8_all (x ++ y))) p end z → StandsAfter base p self.new (x ++ (y ++ z)) }
-    {
-        self.counter = end.counter;
-        self.reached = Place {
-            chars: self.reached.chars + chars,
-            bytes: end.reached.bytes,
-        };
+        safe.rest
     }
 
     /// Where the text has left the format; none while it is in it, and so while the Stream-Safe Text Process leaves it as

@@ -1,6 +1,5 @@
 //! What bytes tell of the non-starters of a text, where the data is known to be that of Unicode; of other data nothing is known.
 
-ghost use Rattle.std.specs.Prelude.{IfSome};
 ghost use Rattle.nf_counts.specs.Counts.{IsCountedFront};
 ghost use Rattle.nf_counts.specs.Safe.{IsSafeFront};
 
@@ -21,15 +20,15 @@ pub(crate) fn counted_front<'t, R: Rows>(rows: &R, room: u32, text: &'t str) -> 
     }
 }
 
-/// A front of the text, after what stands before it, that is known to be in the Stream-Safe Text Format, of sound characters;
-/// it begins with a starter, and so does its last character.
+/// A front of the text of sound characters, with no more than 30 non-starters in a row in their compatibility decompositions, and
+/// no more than `room` before the first starter.
 #[inline]
-pub fn safe_front<'t, R: Rows>(rows: &R, text: &'t str) -> Option<SafeFront<'t>>
-    ensures { IfSome result (λ safe. IsSafeFront (R.properties rows.now) text.now safe.before.now safe.settled.now safe.last safe.rest.now) }
+pub(crate) fn safe_front<'t, R: Rows>(rows: &R, room: u32, text: &'t str) -> SafeFront<'t>
+    ensures { IsSafeFront (R.properties rows.now) room text.now result }
 {
     if rows.is_ucd() {
-        nf_counts::safe_front(text)
+        nf_counts::safe_front(room, text)
     } else {
-        None
+        SafeFront::none(text)
     }
 }

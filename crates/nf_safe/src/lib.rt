@@ -13,8 +13,6 @@ mod runs;
 
 pub use checker::Checker;
 pub use counter::Counter;
-pub use fronts::safe_front;
 pub use measure::Measure;
 pub use measurer::Measurer;
-pub use nf_counts::SafeFront;
 pub use place::Place;

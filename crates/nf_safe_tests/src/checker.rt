@@ -1,6 +1,6 @@
 use nf_row::Change::Compat;
 use nf_row::{JOINER, Patched, Rows, Rule, Ucd, Unsound};
-use nf_safe::{Checker, Place, safe_front};
+use nf_safe::{Checker, Place};
 use std::process::Abort;
 
 const MARK: char = '\u{301}';
@@ -83,49 +83,20 @@ fn an_unsound_character_is_refused_and_skipped(rt: HostRuntime) {
     }
 }
 
-/// A checker that has seen these characters, each so many times, in a text that begins at `base`.
-fn seen<T: Abort>(rt: &T, base: u64, steps: &[(char, u32)]) -> Checker {
-    let mut checker = Checker::new(base);
-    for (c, times) in steps {
-        for _ in 0..*times {
-            assert!(rt; checker.offset() <= u64::MAX - c.len_utf8() as u64);
-            assert_eq!(rt; checker.see(&Ucd, *c), Ok(None), "{c:?}");
-        }
-    }
-    checker
-}
+/// Of so many letters bytes tell that they are in the format.
+const LETTERS: &str = "bbbbbbbbbbbbbbbbbbbbbbbbbbbbbbbbbbbbbbbbbbbbbbbb";
 
-#[test]
-fn goes_on_from_the_end_of_a_text(rt: HostRuntime) {
-    // The offset of that end, what stands there, how many characters there are with those that are not seen, how many
-    // marks may follow, and the place after them.
-    let cases: [(u64, &[(char, u32)], u64, u32, _); 3] = [
-        (164, &[('q', 1), (MARK, 2)], 6, 28, place(65, 225)),
-        (161, &[('\u{C5}', 1)], 1, 29, place(61, 221)),
-        (165, &[('q', 1)], 3, 30, place(64, 226)),
-    ];
-    for (base, steps, chars, marks, answer) in cases {
-        let mut checker = seen(&rt, 100, &[('q', 1), (MARK, 30)]);
-        let end = seen(&rt, base, steps);
-        assert!(rt; checker.place().is_none() && end.place().is_none());
-        assert!(rt; checker.offset() <= end.offset());
-        assert!(rt; chars <= end.offset() - checker.offset());
-        checker.go_on_from(chars, end);
-        for _ in 0..marks {
-            assert!(rt; checker.offset() <= u64::MAX - MARK.len_utf8() as u64);
-            assert_eq!(rt; checker.see(&Ucd, MARK), Ok(None), "at {base}");
-        }
-        assert!(rt; checker.offset() <= u64::MAX - MARK.len_utf8() as u64);
-        assert_eq!(rt; checker.see(&Ucd, MARK), answer, "at {base}");
-    }
-}
+const MARKED: &str = "\u{301}\u{301}bbbbbbbbbbbbbbbbbbbbbbbbbbbbbbbbbbbbbbbbbbb\u{301}";
 
 /// The front ends before the character at which the text leaves the format.
 #[test]
 fn a_front_is_checked_by_look_ups(rt: HostRuntime) {
     // Marks that are seen one by one, a text after them, what is left of it, and the answer to one more mark after that.
-    let cases: [(u32, &str, &str, Result<Option<Place>, Unsound>); 7] = [
+    let cases: [(u32, &str, &str, Result<Option<Place>, Unsound>); 10] = [
         (0, "", "", Ok(None)),
+        (30, LETTERS, "", Ok(None)),
+        (28, MARKED, "\u{301}", Ok(None)),
+        (29, MARKED, &MARKED[2..], place(30, 160)),
         (30, "ab\u{4E2D}\u{301}", "", Ok(None)),
         (29, "\u{301}", "", place(30, 160)),
         (29, "\u{301}\u{301}a", "\u{301}a", place(30, 160)),
@@ -153,7 +124,4 @@ fn nothing_is_counted_of_changed_data(rt: HostRuntime) {
     let rows = Patched::new(&changes);
     assert_eq!(rt; Checker::new(0).see_counted(&Ucd, "b"), "");
     assert_eq!(rt; Checker::new(0).see_counted(&rows, "b"), "b");
-    let letters = "bbbbbbbbbbbbbbbbbbbbbbbbbbbbbbbbbbbbbbbbbbbbbbbb";
-    assert!(rt; safe_front(&Ucd, letters).is_some());
-    assert!(rt; safe_front(&rows, letters).is_none());
 }
