@@ -12,23 +12,6 @@ pub struct Counted<'t> {
     pub counts: Counts,
 }
 
-impl<'t> Counted<'t> {
-    ghost use Rattle.nf_forms.specs.Properties.{Properties};
-    ghost use Rattle.std.specs.Prelude.{ℕ};
-
-    /// Nothing of the text is counted.
-    #[inline]
-    pub fn none(text: &'t str) -> Counted<'t>
-        ensures { (p : Properties) (room : ℕ) → IsCountedFront p room text.now result }
-    {
-        Counted {
-            front: "",
-            rest: text,
-            counts: Counts::new(),
-        }
-    }
-}
-
 /// The front of the text of which one look-up for each character tells the non-starters, for the data of the Unicode Character
 /// Database: it ends before a character with which more than 30 non-starters would stand in a row, or more than `room` before
 /// the first starter.

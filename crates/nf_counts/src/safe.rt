@@ -30,25 +30,6 @@ pub struct SafeFront<'t> {
     pub has_starter: bool,
 }
 
-impl<'t> SafeFront<'t> {
-    ghost use Rattle.nf_forms.specs.Properties.{Properties};
-    ghost use Rattle.std.specs.Prelude.{ℕ};
-
-    /// Nothing is known of the text.
-    #[inline]
-    pub fn none(text: &'t str) -> SafeFront<'t>
-        ensures { (p : Properties) (room : ℕ) → IsSafeFront p room text.now result }
-    {
-        SafeFront {
-            front: "",
-            rest: text,
-            lead: 0,
-            trail: 0,
-            has_starter: false,
-        }
-    }
-}
-
 /// Where no starter is found so many bytes are counted before one is looked for again.
 const WINDOW_LEN: usize = 256;
 

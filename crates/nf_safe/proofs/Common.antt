@@ -1,5 +1,5 @@
 -- The names that most of these proofs cite, passed on from one place. Declares nothing.
-pub use Rattle.std.proofs.Common.{◌≡◌, ℕ, ◌+◌, ◌≤◌, Bool, true, false, not, List, [], ◌∷◌, ◌++◌, length, Some, None, is_some, encode_utf8, encode_utf8_all, refl, sym, ap, ◌∙◌, arith, append_assoc, if◌then◌else◌, length-append, ◌==◌, cond, subst, count_by, max, rules, option_map, take}
+pub use Rattle.std.proofs.Common.{◌≡◌, ℕ, ◌+◌, ◌≤◌, Bool, true, false, not, List, [], ◌∷◌, ◌++◌, length, Some, None, is_some, encode_utf8, encode_utf8_all, refl, sym, ap, ◌∙◌, arith, append-nil, append_assoc, if◌then◌else◌, length-append, ◌==◌, cond, subst, count_by, max, rules, option_map, take}
 pub use Rattle.std.proofs.lemmas.Bool.{cond-true, cond-false, and_parts, and_from}
 pub use Rattle.std.proofs.lemmas.List.Sums.{sum_by-append}
 pub use Rattle.std.proofs.lemmas.Str.{encodes-append}

@@ -1,6 +1,5 @@
 -- The runs of decomposed text that grows at its end.
-use Rattle.nf_safe.proofs.Common.{◌≡◌, ℕ, ◌+◌, Bool, max, cond, List, ◌++◌, arith, if◌then◌else◌, count_by, sum_by-append, Properties, is_nonstarter, lead, trail, longest, Runs, HasRuns}
-use Rattle.std.proofs.Common.{[], ◌≤◌, append-nil}
+use Rattle.nf_safe.proofs.Common.{◌≡◌, ℕ, ◌+◌, ◌≤◌, Bool, max, cond, List, [], ◌++◌, append-nil, arith, if◌then◌else◌, count_by, sum_by-append, Properties, is_nonstarter, lead, trail, longest, Runs, HasRuns}
 use Rattle.nf_forms.specs.Runs.{has_starter}
 use Rattle.nf_forms.specs.Laws.Runs.{lead-marks, trail-append, longest-append}
 

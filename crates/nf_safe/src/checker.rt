@@ -1,8 +1,8 @@
 ghost use Rattle.std.specs.Prelude.{◌≤◌};
 
 use crate::counter::Counter;
-use crate::fronts::safe_front;
 use crate::place::Place;
+use nf_counts::safe_front;
 use nf_row::{RowRoom, Rows, Rule, Unsound, sound_row};
 use nf_utf8::char_count;
 
@@ -82,7 +82,7 @@ impl Checker {
     }
 
     /// Sees a front of the text of which bytes, or one look-up for each character, tell that the text does not leave the format
-    /// there. Answers what follows.
+    /// there; of other data than Unicode's they tell nothing. Answers what follows.
     #[inline]
     pub fn see_counted<'t, R: Rows>(&mut self, rows: &R, text: &'t str) -> &'t str
         requires none { place_of self.old ≡ None }
@@ -93,7 +93,10 @@ impl Checker {
         ensures sees { let p = R.properties rows.now in
             (base : ℕ) (x : List ℕ) → StandsAfter base p self.old x → HasSeen base p self.new x text.now result.now }
     {
-        let safe = safe_front(rows, self.counter.room(), text);
+        if !rows.is_ucd() {
+            return text;
+        }
+        let safe = safe_front(self.counter.room(), text);
         self.counter.pass(safe.lead, safe.trail, safe.has_starter);
         self.reached = Place {
             chars: self.reached.chars + char_count(safe.front) as u64,

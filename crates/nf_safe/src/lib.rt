@@ -4,7 +4,6 @@
 
 mod checker;
 mod counter;
-mod fronts;
 pub mod laws;
 mod measure;
 mod measurer;

@@ -1,9 +1,9 @@
 ghost use Rattle.std.specs.Prelude.{◌≤◌, ◌*◌};
 
 use crate::counter::Counter;
-use crate::fronts::counted_front;
 use crate::measure::Measure;
 use crate::runs::Runs;
+use nf_counts::counted_front;
 use nf_row::{JOINER, Rows, Rule, Unsound, sound};
 use nf_utf8::char_count;
 
@@ -77,8 +77,8 @@ impl Measurer {
         Ok(())
     }
 
-    /// Sees the front of the text of which the non-starters are known by one look-up for each character (`counted_front`),
-    /// and answers what follows.
+    /// Sees the front of the text of which the non-starters are known by one look-up for each character (`counted_front`), for
+    /// Unicode's data, and answers what follows.
     #[inline]
     pub fn see_counted<'t, R: Rows>(&mut self, rows: &R, text: &'t str) -> &'t str
         requires { (values_of self.old).bytes + length text.now ≤ u64.MAX }
@@ -87,7 +87,10 @@ impl Measurer {
         ensures sees { let p = R.properties rows.now in
             (x : List ℕ) → StandsAfter p self.old x → HasSeen p self.new x text.now result.now }
     {
-        let counted = counted_front(rows, self.counter.room(), text);
+        if !rows.is_ucd() {
+            return text;
+        }
+        let counted = counted_front(self.counter.room(), text);
         self.runs.push_counts(&counted.counts);
         self.counter.pass(
             counted.counts.lead,

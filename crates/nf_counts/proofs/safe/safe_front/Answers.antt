@@ -1,14 +1,10 @@
-use Rattle.std.proofs.Common.{◌≡◌, refl, ◌∙◌}
+use Rattle.std.proofs.Common.{refl, ◌∙◌}
 use Rattle.nf_counts.proofs.PieceLemmas.{boundary}
 use Rattle.nf_counts.proofs.SafeLemmas.{counted_safe, ended_begins, ended_safe}
 use Rattle.nf_counts.proofs.safe.safe_front.Goals as goal
-use Rattle.nf_counts.proofs.safe.safe_front.Goals.{After-pass_to}
-
-same : (c : After-pass_to) → c.pass_to.new.self.text.now ≡ c.args.text.now
-same c = c.pass_to.ensures.text ∙ c.new-scan.ensures.text
 
 pub last_end-requires : goal.last_end-requires
-last_end-requires c = record { boundary = rw (same c) at (boundary _ _ _ c.pass_to.ensures.reaches.begins); starts = rw c.as_bytes.ensures.value at c.first_start-start.ensures }
+last_end-requires c = record { boundary = rw (c.pass_to.ensures.text, c.new-scan.ensures.text) at (boundary _ _ _ c.pass_to.ensures.reaches.begins); starts = rw c.as_bytes.ensures.value at c.first_start-start.ensures }
 
 pub split_at-requires : goal.split_at-requires
 split_at-requires c = rw (c.pass_to.ensures.text, c.new-scan.ensures.text) at (boundary _ _ _ c.pass_to.ensures.reaches.begins)

@@ -1,4 +1,4 @@
-use Rattle.nf_safe.proofs.Common.{refl, arith, rules}
+use Rattle.nf_safe.proofs.Common.{[], refl, append-nil, arith, rules}
 use Rattle.nf_safe.proofs.CountedLemmas.{counted_is}
 use Rattle.nf_safe.proofs.MeasurerLemmas.{goes_on-counted}
 use Rattle.nf_safe.proofs.measurer.Measurer.see_counted.Goals as goal
@@ -17,8 +17,11 @@ invariant_of-self g c =
     let counted = counted_is c.counted_front-counted.ensures (search rules) in let at = counted.at in
     record { chars_within = omega arith; put_within = omega arith; unassigned_within = omega arith; nonstarters_within = omega arith }
 
+pub returns-then-not-is_ucd-clause-sees : goal.returns-then-not-is_ucd-clause-sees
+returns-then-not-is_ucd-clause-sees g c = λ x before. record { front = []; is_front = refl; stands = rw append-nil before }
+
 pub returns-clause-sees : goal.returns-clause-sees
 returns-clause-sees g c = λ x before.
-    let is = c.counted_front-counted.ensures in
+    let is = rw (← c.is_ucd.ensures c.if-not-is_ucd.false) at c.counted_front-counted.ensures in
     goes_on-counted before is (counted_is is (search rules)).at (omega arith) c.pass.ensures
     (c.push_counts.ensures.runs _ _ _ is.counts before.runs) refl (omega arith) refl refl

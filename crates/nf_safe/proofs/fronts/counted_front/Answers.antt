@@ -1,4 +1,0 @@
-use Rattle.nf_safe.proofs.fronts.counted_front.Goals as goal
-
-pub returns-else-is_ucd : goal.returns-else-is_ucd
-returns-else-is_ucd g c = c.none.ensures (g.R.Rows.properties c.args.rows.now) c.args.room
