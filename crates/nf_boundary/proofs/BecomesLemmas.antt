@@ -1,16 +1,16 @@
 -- What decomposed text from a boundary on becomes: a member more, and its form when a boundary comes.
-use Rattle.std.proofs.Common.{◌≡◌, ◌≢◌, ◌==◌, ℕ, ◌+◌, Bool, true, false, List, [], ◌∷◌, ◌++◌, length, map, Some, refl, sym, ap, ◌∙◌, append_assoc, append-nil, arith, leb, IsTrue, insert, encode_utf8_all}
-use Rattle.nf_boundary.proofs.Common.{length-map, ucd, Form, row_of, decomposed, composes, arranged, finished, canonical_combining_class, IsSound-from_test, ne_eqb, cond-true, has_starter, trail, longest, nat_tests, Becomes, Leaves, Nfkd, is_sound, NeverSecond, Mark, held-push, prefix_len, flat_map, Properties, is_starter, list_any_at, nil_from_length, marks_push, flat_map-full, decomposed-push, longest-le-length, mark_of, is_rising}
-use Rattle.nf_forms.specs.Laws.Settling.{closed_off}
+use Rattle.std.proofs.Common.{◌≡◌, ◌≢◌, ◌==◌, ℕ, ◌+◌, Bool, true, false, List, [], ◌∷◌, ◌++◌, length, map, Some, None, refl, sym, ap, ◌∙◌, append_assoc, append-nil, arith, leb, IsTrue, insert, encode_utf8_all}
+use Rattle.nf_boundary.proofs.Common.{length-map, ucd, Form, row_of, decomposed, composes, arranged, joined, finished, canonical_combining_class, IsSound-from_test, ne_eqb, cond-true, has_starter, trail, longest, nat_tests, Becomes, Leaves, Nfkd, is_sound, NeverSecond, Mark, held-push, prefix_len, flat_map, Properties, is_starter, list_any_at, nil_from_length, marks_push, flat_map-full, decomposed-push, longest-le-length, mark_of, is_rising, IsOwnRow, row-own}
+use Rattle.nf_forms.specs.Laws.Settling.{closed_off, closed_off-group}
 use Rattle.nf_forms.specs.Audit.{IsFull, AreOwnMarks}
 use Rattle.nf_forms.specs.Order.{by_class}
 use Rattle.nf_forms.specs.Laws.Runs.{lead-le-length, trail-le-length, trail-append, trail-push, longest-append}
 use Rattle.nf_forms.specs.Laws.Order.{order-after, has_starter-by_class}
 use Rattle.nf_forms.specs.Laws.Ordering.{order-ordered}
-use Rattle.nf_forms.specs.Laws.Compose.{compose-after}
+use Rattle.nf_forms.specs.Laws.Compose.{IsGroup, compose-after, composite-starter, joined-after_marks}
 use Rattle.nf_forms.specs.Laws.Boundary.{arranged-boundary}
-use Rattle.nf_boundary.proofs.LetterLemmas.{appended}
-use Rattle.nf_boundary.proofs.JoinLemmas.{class_of}
+use Rattle.nf_boundary.proofs.LetterLemmas.{appended, class_of}
+use Rattle.nf_boundary.proofs.StarterLemmas.{arranged-composed, arranged-next}
 
 -- a starter and non-starters: they are put in order, and composed
 arranged-marked : (p : Properties) (s : ℕ) (run : List ℕ) → is_starter p s ≡ true → has_starter p run ≡ false → (b : Bool) → arranged b p (s ∷ run) ≡ closed_off p b (Some s) (by_class p run)
@@ -23,8 +23,7 @@ module _ (f : Form) where
   pub becomes_one : (starter : ℕ) (marks : List Mark) (w before : List ℕ) → w ≡ starter ∷ [] → is_starter ucd starter ≡ true → marks ≡ [] → Becomes f w starter marks before before
   unfolding by_class
   becomes_one starter marks w before text starts alone =
-      let none : arranged (composes f) ucd [] ≡ [] = grind arith in
-      record { done = []; run = []; text = text; starts = starts; no_starter = refl; held = alone; formed = rw (none, append-nil); is_cut = λ v. rw none }
+      record { head = starter ∷ []; run = []; done = []; text = text; starts = starts; no_starter = refl; held = alone; formed = rw append-nil; comes_to = λ v. refl }
 
   module _ (w : List ℕ) (starter : ℕ) (marks : List Mark) (before now : List ℕ) (here : Becomes f w starter marks before now) where
     -- a non-starter more, after those of no greater class
@@ -34,22 +33,23 @@ module _ (f : Form) where
         let same : class ≡ ucd.class c = is ∙ sym (class_of c) in
         let mark : is_starter ucd c ≡ false = ne_eqb _ 0 (rw (← same) some) in
         record {
-          done = here.done;
+          head = here.head;
           run = here.run ++ c ∷ [];
+          done = here.done;
           text = rw (here.text, append_assoc);
           starts = here.starts;
           no_starter = marks_push ucd here.run c here.no_starter mark;
           held = held-push ucd here.run c marks marks' here.no_starter mark here.held (rw (← same) inserted);
           formed = here.formed;
-          is_cut = here.is_cut;
+          comes_to = here.comes_to;
         }
 
     -- what is appended when all that stands there is closed off
     pub becomes_closed : (new : List ℕ) → ((m : List ℕ) → marks ≡ map (mark_of ucd) m → has_starter ucd m ≡ false → new ≡ now ++ encode_utf8_all (closed_off ucd (composes f) (Some starter) m))
         → new ≡ before ++ encode_utf8_all (finished f ucd w)
     becomes_closed new closed =
-        rw (here.text, here.is_cut here.run, arranged-marked ucd _ _ here.starts here.no_starter (composes f))
-        (appended before (finished f ucd here.done) _ now new here.formed (closed _ here.held (has_starter-by_class ucd here.run)))
+        rw (here.text, here.comes_to here.run, arranged-marked ucd _ _ here.starts here.no_starter (composes f))
+        (appended before here.done _ now new here.formed (closed _ here.held (has_starter-by_class ucd here.run)))
 
     -- the starter alone, where no marks are held
     pub becomes_closed_one : true ≡ (length marks == 0) → (new : List ℕ) → new ≡ now ++ encode_utf8_all (starter ∷ []) → new ≡ before ++ encode_utf8_all (finished f ucd w)
@@ -57,10 +57,47 @@ module _ (f : Form) where
         let none : m ≡ [] = nil_from_length m (grind (arith, nat_tests, length-map m (mark_of ucd))) in
         grind (arith, none))
 
-  -- a starter more, that composes with nothing before it, where that is closed off
-  pub becomes_cut : (w before now : List ℕ) (c : ℕ) → now ≡ before ++ encode_utf8_all (finished f ucd w) → is_starter ucd c ≡ true → NeverSecond ucd f c → Becomes f (w ++ c ∷ []) c [] before now
+  -- a starter more, before which all is settled
+  becomes_starter : (w before now done : List ℕ) (c x : ℕ) → now ≡ before ++ encode_utf8_all done → is_starter ucd x ≡ true
+      → ((v : List ℕ) → finished f ucd (w ++ c ∷ v) ≡ done ++ finished f ucd (x ∷ v)) → Becomes f (w ++ c ∷ []) x [] before now
   unfolding by_class
-  becomes_cut w before now c formed starts never = grind (arith, λ (v : List ℕ). arranged-boundary ucd (composes f) w c v starts never)
+  becomes_starter w before now done c x formed starts comes_to =
+      record { head = w ++ c ∷ []; run = []; done = done; text = rw append-nil; starts = starts; no_starter = refl; held = refl; formed = formed; comes_to = λ v. rw append_assoc (comes_to v) }
+
+  -- one that composes with nothing, where what stands there is closed off
+  pub becomes_cut : (w before now : List ℕ) (c : ℕ) → now ≡ before ++ encode_utf8_all (finished f ucd w) → is_starter ucd c ≡ true → NeverSecond ucd f c → Becomes f (w ++ c ∷ []) c [] before now
+  becomes_cut w before now c formed starts never = becomes_starter w before now _ c c formed starts (λ v. arranged-boundary ucd (composes f) w c v starts never)
+
+  -- one that may compose with what stands there, closed off, in a form that composes
+  module _ (composing : composes f ≡ true) (w before now : List ℕ) (starter : ℕ) (marks : List Mark) (here : Becomes f w starter marks before now) (text : List ℕ)
+      (closed : (m : List ℕ) → marks ≡ map (mark_of ucd) m → has_starter ucd m ≡ false → text ≡ closed_off ucd true (Some starter) m)
+      (c : ℕ) (starts : is_starter ucd c ≡ true) where
+    is_closed : text ≡ closed_off ucd true (Some starter) (by_class ucd here.run)
+    is_closed = closed _ here.held (has_starter-by_class ucd here.run)
+
+    group : IsGroup ucd text
+    group = rw is_closed (closed_off-group ucd true starter (by_class ucd here.run) here.starts (has_starter-by_class ucd here.run))
+
+    comes_to : arranged true ucd (starter ∷ here.run) ≡ text
+    comes_to = arranged-marked ucd starter here.run here.starts here.no_starter true ∙ sym is_closed
+
+    more : (v : List ℕ) → finished f ucd (w ++ c ∷ v) ≡ here.done ++ arranged true ucd ((starter ∷ here.run) ++ c ∷ v)
+    more v = rw (here.text, append_assoc) (here.comes_to (here.run ++ c ∷ v) ∙ ap (λ b. here.done ++ arranged b ucd ((starter ∷ here.run) ++ c ∷ v)) composing)
+
+    pub becomes_composed : (x : ℕ) → ((s : ℕ) (m : List ℕ) → text ≡ s ∷ m → joined ucd s m c ≡ Some x) → Becomes f (w ++ c ∷ []) x [] before now
+    becomes_composed x joins = alone group.marks group.text (joins _ _ group.text)
+      where
+        alone : (m : List ℕ) → text ≡ group.starter ∷ m → joined ucd group.starter m c ≡ Some x → Becomes f (w ++ c ∷ []) x [] before now
+        alone [] is both = becomes_starter w before now here.done c x here.formed (composite-starter ucd group.starter c x both)
+            (λ v. more v ∙ ap (λ z. here.done ++ z) (arranged-composed ucd (starter ∷ here.run) group.starter (comes_to ∙ is) group.starts c starts x both v) ∙ ap (λ b. here.done ++ arranged b ucd (x ∷ v)) (sym composing))
+        alone (y ∷ m) is both = cc (joined-after_marks ucd group.starter y m c starts)
+
+    pub becomes_next : ((s : ℕ) (m : List ℕ) → text ≡ s ∷ m → joined ucd s m c ≡ None) → (now' : List ℕ) → now' ≡ now ++ encode_utf8_all text → Becomes f (w ++ c ∷ []) c [] before now'
+    becomes_next none now' grown = becomes_starter w before now' (here.done ++ text) c c (appended before here.done text now now' here.formed grown) starts
+        (λ v. more v ∙ ap (λ z. here.done ++ z) (ends v) ∙ sym (append_assoc here.done text (arranged true ucd (c ∷ v))) ∙ ap (λ b. (here.done ++ text) ++ arranged b ucd (c ∷ v)) (sym composing))
+      where
+        ends : (v : List ℕ) → arranged true ucd ((starter ∷ here.run) ++ c ∷ v) ≡ text ++ arranged true ucd (c ∷ v)
+        ends v = rw group.text (arranged-next ucd (starter ∷ here.run) group.starter group.marks (comes_to ∙ group.text) group.starts group.no_starter c starts v (none _ _ group.text))
 
 -- ---- how many non-starters may follow
 
@@ -69,6 +106,17 @@ pub leaves_any : (c : ℕ) → IsTrue (is_sound ucd c) → Leaves (c ∷ []) 12
 leaves_any c sound =
     let row = append-nil (ucd.compat c) in
     omega (arith, ap (trail ucd) row, trail-le-length, ap (longest ucd) row, longest-le-length, (IsSound-from_test ucd c sound).compat_few)
+
+lead-one : (c : ℕ) → is_starter ucd c ≡ true → longest ucd (c ∷ []) ≡ 0
+lead-one c starts = rw starts
+
+-- a starter more that is its own row
+pub leaves_starter : (c : ℕ) → IsOwnRow ucd c → is_starter ucd c ≡ true → (cs : List ℕ) (room : ℕ) → Leaves cs room → Leaves (cs ++ c ∷ []) 30
+leaves_starter c own starts cs room here =
+    let w = decomposed Nfkd ucd cs in
+    let both = rw (row-own ucd Nfkd c own) at (decomposed-push ucd Nfkd cs c) in
+    let end : trail ucd (w ++ c ∷ []) ≡ 0 = trail-push ucd w c ∙ cond-true _ _ _ starts in
+    omega (arith, ap (trail ucd) both, end, ap (longest ucd) both, longest-append, lead-one c starts)
 
 -- and a character more whose row is of non-starters
 pub leaves_more : (cs : List ℕ) (c room room' : ℕ) → has_starter ucd (ucd.compat c) ≡ false → room' + length (ucd.compat c) ≡ room → Leaves cs room → Leaves (cs ++ c ∷ []) room'

@@ -11,11 +11,10 @@ pub use Rattle.nf_facts.specs.KitForm.{kit_form}
 pub use Rattle.nf_facts.specs.Passing.{passes_check, halfwidth_marks, is_among, vowel_signs}
 pub use Rattle.nf_forms.specs.Span.{IsSpan, IsMark}
 pub use Rattle.nf_forms.specs.Segments.{HasForm, BeginsAtBoundary}
-pub use Rattle.nf_forms.specs.Cluster.{IsOwnRow, IsCluster}
+pub use Rattle.nf_forms.specs.Forms.{IsOwnRow, row_of, composes, decomposed, finished, arranged}
 pub use Rattle.nf_forms.specs.Compose.{composite, join, joined, replaced}
-pub use Rattle.nf_forms.specs.Forms.{row_of, composes, decomposed, finished, arranged}
 pub use Rattle.nf_forms.specs.Laws.SegmentForms.{HasForm-span, HasForm-row, span-front, resets_count-lead, own_boundary-boundary, boundary-decomposing}
-pub use Rattle.nf_forms.specs.Laws.Cluster.{HasForm-cluster, cluster-joined, cluster-one, row-own, cluster-left, cluster-next}
+pub use Rattle.nf_forms.specs.Laws.StreamSafe.{row-own, decomposed-push, longest-le-length}
 pub use Rattle.nf_forms.specs.Laws.Sound.{IsSoundText, IsSound-from_test}
 pub use Rattle.nf_forms.specs.Boundary.{HasBoundaryBefore, IsBoundary, IsOwnBoundary, NeverSecond}
 pub use Rattle.nf_forms.specs.Properties.{is_starter, Properties}
@@ -26,13 +25,11 @@ pub use Rattle.nf_forms.specs.declared.form.Form.{Form}
 pub use Rattle.nf_forms.specs.declared.form.Form.TheVariants.{Nfkd}
 pub use Rattle.nf_forms.specs.Laws.Front.{marks_push}
 pub use Rattle.nf_forms.specs.Laws.Audited.{flat_map-full, stream_safe-short}
-pub use Rattle.nf_forms.specs.Laws.StreamSafe.{decomposed-push, longest-le-length}
 pub use Rattle.ucd_normal.specs.CanonicalCombiningClass.{canonical_combining_class}
 pub use Rattle.ucd_normal.specs.QuickCheck.{quick_check}
 pub use Rattle.ucd_normal.specs.declared.forms.QuickCheck.TheVariants.{Yes, No}
 pub use Rattle.unicode_normalization.proofs.HangulLemmas.{IsLv, IsLvt, compose_hangul-lv, compose_hangul-lvt}
 pub use Rattle.unicode_normalization.specs.Hangul.{compose_hangul, is_syllable}
-pub use Rattle.nf_boundary.specs.Joins.{Gathers, AreMadeOf, Joins}
 pub use Rattle.nf_boundary.specs.Laws.Held.{held-characters, prefix_len-rising, held-push}
 pub use Rattle.nf_boundary.specs.Piece.{Becomes, Fills, Leaves}
 pub use Rattle.nf_boundary.specs.Pieces.{Closes, Reaches}

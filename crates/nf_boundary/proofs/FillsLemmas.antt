@@ -2,8 +2,7 @@
 use Rattle.std.proofs.Common.{add-one, ◌≡◌, ◌≢◌, ℕ, ◌+◌, ◌<◌, false, List, [], ◌∷◌, ◌++◌, length, take, get_or, sym, ap, ◌∙◌, arith, eq-eqb, encode_utf8_all}
 use Rattle.nf_boundary.proofs.Common.{nat_tests, ucd, Sees, IsAtBoundary, Closes, Form, row_of, decomposed, finished, No, Seen, take_more, canonical_combining_class, has_starter, IsSoundText, kit_form, Becomes, Leaves, Fills, quick_check, IsMark, IsOwnRow, row-own, Mark, marks_push, stream_safe-short, decomposed-push}
 use Rattle.nf_boundary.specs.declared.piece.Piece.{Piece}
-use Rattle.nf_boundary.proofs.JoinLemmas.{class_of}
-use Rattle.nf_boundary.proofs.LetterLemmas.{begins_more, split_more, split_seen}
+use Rattle.nf_boundary.proofs.LetterLemmas.{class_of, begins_more, split_more, split_seen}
 use Rattle.nf_boundary.proofs.BecomesLemmas.{becomes_one, leaves_more}
 
 -- a row read member by member
@@ -26,12 +25,12 @@ module _ (f : Form) (first : Seen) (at : IsAtBoundary f first) where
 
   module _ (seen : Seen) (piece : Piece) (before now : List ℕ) (here : Fills f first seen piece before now) where
     -- one more
-    pub fills_more : (piece' : Piece) → ((w before now : List ℕ) → Becomes f w piece.starter piece.run.items before now → Becomes f (w ++ row_of f ucd seen.character) piece'.starter piece'.run.items before now)
+    pub fills_more : (piece' : Piece) (now' : List ℕ) → ((w before : List ℕ) → Becomes f w piece.starter piece.run.items before now → Becomes f (w ++ row_of f ucd seen.character) piece'.starter piece'.run.items before now')
         → ((cs : List ℕ) → Leaves cs piece.room → Leaves (cs ++ seen.character ∷ []) piece'.room)
-        → (next : Seen) → next.text.now ≡ seen.after.now → Sees next → Fills f first next piece' before now
-    fills_more piece' becomes leaves next is sees =
+        → (next : Seen) → next.text.now ≡ seen.after.now → Sees next → Fills f first next piece' before now'
+    fills_more piece' now' becomes leaves next is sees =
         let split = split_more first.text.now seen.text.now next.text.now here.front (seen.character ∷ []) here.split (split_seen seen here.sees next.text.now is) in
-        grind (arith, begins_more f here.front (seen.character ∷ []) here.begins, decomposed-push ucd f here.front seen.character, becomes (decomposed f ucd here.front) before now here.becomes, leaves here.front here.leaves)
+        grind (arith, begins_more f here.front (seen.character ∷ []) here.begins, decomposed-push ucd f here.front seen.character, becomes (decomposed f ucd here.front) before here.becomes, leaves here.front here.leaves)
 
     -- and then a boundary
     pub fills_segments : ((x : List ℕ) → IsSoundText ucd x) → (after : Seen) → after ≡ seen → IsAtBoundary f after

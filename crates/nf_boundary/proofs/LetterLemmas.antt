@@ -1,6 +1,10 @@
 -- Characters that are appended to a text, those that it begins with, and the first of them as a text of its own.
-use Rattle.std.proofs.Common.{arith, ◌≡◌, ℕ, List, [], ◌∷◌, ◌++◌, append-nil, append_assoc, encode_utf8_all}
-use Rattle.nf_boundary.proofs.Common.{encodes-append, Form, BeginsAtBoundary, HasForm, ucd, Seen, Sees, IsAtBoundary, Closes}
+use Rattle.std.proofs.Common.{arith, ◌≡◌, ℕ, List, [], ◌∷◌, ◌++◌, append-nil, append_assoc, refl, encode_utf8_all}
+use Rattle.nf_boundary.proofs.Common.{encodes-append, Form, BeginsAtBoundary, HasForm, ucd, Seen, Sees, IsAtBoundary, Closes, canonical_combining_class}
+
+pub class_of : (c : ℕ) → ucd.class c ≡ canonical_combining_class c
+unfolding ucd
+class_of c = refl
 
 -- characters appended to a text to which others were
 pub appended : (old a b new new' : List ℕ) → new ≡ old ++ encode_utf8_all a → new' ≡ new ++ encode_utf8_all b → new' ≡ old ++ encode_utf8_all (a ++ b)

@@ -3,8 +3,8 @@ mod WalkLemmas
 pub mod SeenLemmas
 pub mod PieceLemmas
 pub mod LetterLemmas
-pub mod JoinLemmas
 pub mod RowLemmas
 pub mod HangulLemmas
+pub mod StarterLemmas
 pub mod BecomesLemmas
 pub mod FillsLemmas

@@ -2,8 +2,7 @@
 -- 3.11, D117).
 use Rattle.std.proofs.Common.{◌≡◌, ℕ, ◌+◌, ◌<◌, ◌≤◌, max, false, nat_le, List, [], ◌∷◌, ◌++◌, length, map, take, get_or, Option, Some, None, ap, arith, if◌then◌else◌, fold}
 use Rattle.nf_boundary.proofs.Common.{nat_tests, length-map, length-append, get_or-map, take_more, Properties, is_starter, has_starter, composite, replaced, join, Mark, list_any-append, list_any_at, mark_of}
-use Rattle.nf_forms.specs.Cluster.{blocks}
-use Rattle.nf_forms.specs.Compose.{is_blocked}
+use Rattle.nf_forms.specs.Compose.{blocks, is_blocked}
 use Rattle.std.proofs.lemmas.List.Sums.{fold-append}
 
 -- after i marks: the starter, those that are left, and the greatest class of these

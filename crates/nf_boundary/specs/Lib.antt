@@ -2,7 +2,6 @@ pub mod Front
 pub mod Seen
 pub mod Pieces
 pub mod Stands
-pub mod Joins
 pub mod Hangul
 pub mod Mark
 pub mod Laws

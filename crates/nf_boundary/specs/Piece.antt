@@ -15,16 +15,18 @@ use Rattle.nf_boundary.specs.declared.mark.Mark.{Mark}
 use Rattle.nf_boundary.specs.Mark.{mark_of}
 use Rattle.nf_boundary.specs.Seen.{Sees}
 
--- decomposed text has become what was appended, and after it a starter and non-starters, held in order of class
+-- decomposed text has become what was appended, and after it a starter and non-starters, held in order of class: with any
+-- text in place of these non-starters it comes to what was appended, and what the starter and that text come to
 pub record Becomes (f : Form) (w : List ℕ) (starter : ℕ) (marks : List Mark) (before now : List ℕ) : Type 0 where
-  pub done : List ℕ
+  pub head : List ℕ
   pub run : List ℕ
-  pub text : w ≡ done ++ starter ∷ run
+  pub done : List ℕ
+  pub text : w ≡ head ++ run
   pub starts : is_starter ucd starter ≡ true
   pub no_starter : has_starter ucd run ≡ false
   pub held : marks ≡ map (mark_of ucd) (by_class ucd run)
-  pub formed : now ≡ before ++ encode_utf8_all (finished f ucd done)
-  pub is_cut : (v : List ℕ) → finished f ucd (done ++ starter ∷ v) ≡ finished f ucd done ++ finished f ucd (starter ∷ v)
+  pub formed : now ≡ before ++ encode_utf8_all done
+  pub comes_to : (v : List ℕ) → finished f ucd (head ++ v) ≡ done ++ finished f ucd (starter ∷ v)
 
 -- in NFKD so many non-starters more may come after these characters, and no run of them is too long
 pub record Leaves (cs : List ℕ) (room : ℕ) : Type 0 where

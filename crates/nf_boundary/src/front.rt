@@ -1,4 +1,5 @@
-ghost use Rattle.std.specs.Prelude.{ℕ, List, IfSome};
+ghost use Rattle.std.specs.Prelude.{◌≡◌, ℕ, List, false, IfSome};
+ghost use Rattle.nf_forms.specs.Forms.{composes};
 ghost use Rattle.nf_forms.specs.Ucd.{ucd};
 ghost use Rattle.nf_entry.specs.Entry.{IsOfFirst};
 ghost use Rattle.nf_boundary.specs.Front.{IsFirstSegments};
@@ -74,16 +75,30 @@ fn first_boundary<'t>(form: Form, first: Seen<'t>) -> Option<Row<'t>>
     Some(Row { seen, members: &[] })
 }
 
-/// Appends what a text becomes from its first character on, in turns what goes in the loops of the form and what goes by pieces,
-/// until a span comes again or nothing is taken; answers the last boundary. So many bytes has the text that it ends.
+/// Appends what a text becomes from its first character on, until a span comes again or nothing is taken; answers the last
+/// boundary. So many bytes has the text that it ends.
 #[inline(always)]
 fn take_front<'t>(form: Form, first: Row<'t>, len: usize, formed: &mut Formed) -> Seen<'t>
     requires { IsRow form first }
     ensures { (whole same : List ℕ) → Reaches form whole same formed.old.items first.entry.seen → Reaches form whole same formed.new.items result }
 {
+    if form.composes() {
+        compose_front(form, first, formed)
+    } else {
+        decompose_front(form, first, len, formed)
+    }
+}
+
+/// The same in a form that does not compose, in turns what is taken apart and what goes by pieces.
+#[inline(always)]
+fn decompose_front<'t>(form: Form, first: Row<'t>, len: usize, formed: &mut Formed) -> Seen<'t>
+    requires row { IsRow form first }
+    requires plain { composes form ≡ false }
+    ensures { (whole same : List ℕ) → Reaches form whole same formed.old.items first.entry.seen → Reaches form whole same formed.new.items result }
+{
     let mut next = first;
     for _ in 0..MAX_TURNS {
-        // After what is taken another piece may begin that clusters do not take.
+        // After what is taken another piece may begin that is not taken apart.
         let changed = take_changed(form, next, formed);
         if changed.seen.text.len() < len
             && goes_on_as_span(form, changed.seen, !formed.is_empty())
@@ -102,22 +117,21 @@ fn take_front<'t>(form: Form, first: Row<'t>, len: usize, formed: &mut Formed) -
     next.seen
 }
 
-/// Appends what a text becomes from its first character on, as far as the loops of the form go; answers the last boundary.
+/// Appends what a text becomes from its first character on, as far as it is taken apart; answers the last boundary.
 #[inline(always)]
 fn take_changed<'t>(form: Form, first: Row<'t>, formed: &mut Formed) -> Row<'t>
-    requires { IsRow form first }
+    requires row { IsRow form first }
+    requires plain { composes form ≡ false }
     ensures row { IsRow form result }
     ensures reaches { (whole same : List ℕ) → Reaches form whole same formed.old.items first.entry.seen → Reaches form whole same formed.new.items result.seen }
 {
     if !first.members.is_empty() {
         return first;
     }
-    let seen = if form.composes() {
-        compose_front(form, first.seen, formed)
-    } else {
-        take_front_apart(form, first.seen, formed)
-    };
-    Row { seen, members: &[] }
+    Row {
+        seen: take_front_apart(form, first.seen, formed),
+        members: &[],
+    }
 }
 
 /// Whether a span comes next, as far as two characters tell: after what the form changed it may begin with marks, but

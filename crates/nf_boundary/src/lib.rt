@@ -7,7 +7,6 @@ mod after_span;
 mod apart;
 mod between;
 mod closing;
-mod cluster;
 mod composing;
 mod encoding;
 mod front;

@@ -1,15 +1,16 @@
 //! A piece of text from one boundary to the next, whatever it is made of: by the decompositions of its characters.
-ghost use Rattle.std.specs.Prelude.{◌≡◌, ◌≢◌, ◌+◌, ℕ, List, [], ◌∷◌, ◌++◌, take, length, encode_utf8_all, IfSome, IsSome, IsNone};
+ghost use Rattle.std.specs.Prelude.{◌≡◌, ◌≢◌, ◌+◌, ℕ, true, List, [], ◌∷◌, ◌++◌, take, length, encode_utf8_all, IfSome, IsSome, IsNone};
 ghost use Rattle.ucd_normal.specs.CanonicalCombiningClass.{canonical_combining_class};
 ghost use Rattle.nf_forms.specs.declared.form.Form.{Form};
-ghost use Rattle.nf_forms.specs.Forms.{row_of, finished};
+ghost use Rattle.nf_forms.specs.Compose.{joined};
+ghost use Rattle.nf_forms.specs.Forms.{row_of, finished, composes};
 ghost use Rattle.nf_forms.specs.Ucd.{ucd};
 ghost use Rattle.nf_boundary.specs.Seen.{Sees};
 ghost use Rattle.nf_boundary.specs.Rows.{IsRow};
 ghost use Rattle.nf_boundary.specs.Piece.{Becomes, Leaves};
 
 use crate::closing::{Segment, close_off};
-use crate::encoding::{append_one, put_utf8};
+use crate::encoding::{append, append_one, put_utf8};
 use crate::mark::{Mark, Run, hold};
 use crate::rows::Row;
 use crate::seen::{Seen, look_up};
@@ -17,7 +18,7 @@ use crate::segments::Formed;
 use nf_entry::Entry;
 use nf_facts::{in_tables, laws};
 use nf_forms::{Form, MAX_RUN};
-use nf_row::Ucd;
+use nf_row::{Ucd, composite};
 use unicode_normalization::char::decomposition;
 
 /// So many may stand after any character, whose compatibility decomposition has at most 18 members.
@@ -93,20 +94,54 @@ impl Piece {
         Some(())
     }
 
-    /// A character more that is a non-starter, or decomposes to non-starters.
+    /// A character more before which the text may not be cut: a non-starter, one that decomposes to non-starters, or, in a form
+    /// that composes, a starter that may compose with what stands there.
     #[inline(always)]
-    pub fn join(&mut self, form: Form, seen: Seen<'_>) -> Option<()>
+    pub fn join(&mut self, form: Form, seen: Seen<'_>, formed: &mut Formed) -> Option<()>
         requires { Sees seen }
-        ensures becomes { IsSome result → (w before now : List ℕ) → Becomes form w self.old.starter self.old.run.items before now → Becomes form (w ++ row_of form ucd seen.entry.character) self.new.starter self.new.run.items before now }
+        ensures becomes { IsSome result → (w before : List ℕ) → Becomes form w self.old.starter self.old.run.items before formed.old.items → Becomes form (w ++ row_of form ucd seen.entry.character) self.new.starter self.new.run.items before formed.new.items }
         ensures leaves { IsSome result → (cs : List ℕ) → Leaves cs self.old.room → Leaves (cs ++ seen.entry.character ∷ []) self.new.room }
+        ensures stays { IsNone result → formed.new ≡ formed.old }
     {
         laws::the_quick_check_tells();
+        laws::what_passes_in_nfkd_is_its_own_row();
         let class = seen.known.class();
         if class != 0 && !seen.known.is_no(form) {
             self.room = hold_one(&mut self.run, self.room, seen.character, class)?;
             return Some(());
         }
+        if class == 0 && form.composes() && seen.known.is_yes(Form::Nfkd) {
+            return self.join_starter(form, seen.character, formed);
+        }
         self.room = hold_row(form, &mut self.run, self.room, seen.character)?;
+        Some(())
+    }
+
+    /// A starter more, in a form that composes: where it does not compose with what stands there, that is appended.
+    fn join_starter(&mut self, _form: Form, c: char, formed: &mut Formed) -> Option<()>
+        requires composing { composes _form ≡ true }
+        requires class { canonical_combining_class c ≡ 0 }
+        ensures becomes { IsSome result → (w before : List ℕ) → Becomes _form w self.old.starter self.old.run.items before formed.old.items → Becomes _form (w ++ c ∷ []) self.new.starter self.new.run.items before formed.new.items }
+        ensures room { IsSome result → self.new.room ≡ 30 }
+        ensures stays { IsNone result → formed.new ≡ formed.old }
+    {
+        let mut text = Segment::new();
+        close_off(
+            &Ucd,
+            true,
+            Some(self.starter),
+            self.run.as_slice(),
+            &mut text,
+        );
+        self.run.clear();
+        self.room = MAX_RUN;
+        match joined_to(text.as_slice(), c) {
+            Some(composite) => self.starter = composite,
+            None => {
+                append(formed, text.as_slice())?;
+                self.starter = c;
+            }
+        }
         Some(())
     }
 
@@ -132,6 +167,19 @@ impl Piece {
         );
         put_utf8(formed, text.as_slice());
         Some(())
+    }
+}
+
+/// What a starter composes to with what stands before it, closed off, where that is a starter alone.
+#[inline]
+fn joined_to(text: &[char], c: char) -> Option<char>
+    requires { canonical_combining_class c ≡ 0 }
+    ensures { (starter : ℕ) (marks : List ℕ) → text.now ≡ starter ∷ marks → result ≡ joined ucd starter marks c }
+{
+    if text.len() == 1 {
+        composite(&Ucd, text[0], c)
+    } else {
+        None
     }
 }
 

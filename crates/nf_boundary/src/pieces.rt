@@ -1,4 +1,5 @@
-ghost use Rattle.std.specs.Prelude.{◌≡◌, ℕ, List, take, length, IfSome, IsNone};
+ghost use Rattle.std.specs.Prelude.{◌≡◌, ℕ, List, false, take, length, IfSome, IsNone};
+ghost use Rattle.nf_forms.specs.Forms.{composes};
 ghost use Rattle.nf_boundary.specs.Seen.{IsAtBoundary};
 ghost use Rattle.nf_boundary.specs.Rows.{IsRow};
 ghost use Rattle.nf_boundary.specs.Pieces.{Closes, Reaches};
@@ -14,18 +15,17 @@ use nf_forms::Form;
 /// been read in vain.
 pub(crate) const MOST_BEFORE: usize = 896;
 
-/// Appends what the pieces become that the text begins with, as far as boundaries come after them; answers the last boundary.
-/// It stands out of line, to keep its callers' loops short.
+/// Appends what the pieces become that the text begins with, in a form that does not compose, as far as boundaries come after
+/// them; answers the last boundary. It stands out of line, to keep its callers' loops short.
 pub(crate) fn take_pieces<'t>(form: Form, first: Row<'t>, formed: &mut Formed) -> Seen<'t>
-    requires { IsRow form first }
+    requires row { IsRow form first }
+    requires plain { composes form ≡ false }
     ensures at { IsAtBoundary form result }
     ensures reaches { (whole same : List ℕ) → Reaches form whole same formed.old.items first.entry.seen → Reaches form whole same formed.new.items result }
 {
     match form {
-        Form::Nfc => pieces_in(Form::Nfc, first, formed),
-        Form::Nfd => pieces_in(Form::Nfd, first, formed),
-        Form::Nfkc => pieces_in(Form::Nfkc, first, formed),
         Form::Nfkd => pieces_in(Form::Nfkd, first, formed),
+        _ => pieces_in(Form::Nfd, first, formed),
     }
 }
 
@@ -46,7 +46,7 @@ fn pieces_in<'t>(form: Form, first: Row<'t>, formed: &mut Formed) -> Seen<'t>
 
 /// Appends what a piece becomes, where a boundary comes after it, and answers that.
 #[inline(always)]
-fn take_piece<'t>(
+pub(crate) fn take_piece<'t>(
     form: Form,
     first: Row<'t>,
     piece: &mut Piece,
@@ -83,15 +83,16 @@ fn append_piece<'t>(
 {
     laws::every_character_is_sound();
     let mut next = Seen::first(first.seen.after)?;
-    if first.seen.is_span_before(form, next) {
+    if first.seen.is_span_before(form, next, !formed.is_empty()) {
         return None;
     }
     piece.begin(form, first, formed)?;
-    while next.known.class() != 0 || next.known.begins_with_mark() {
-        piece.join(form, next)?;
+    loop {
+        if let Some(after) = Row::at(form, next) {
+            piece.close(form, formed)?;
+            return Some(after);
+        }
+        piece.join(form, next, formed)?;
         next = Seen::first(next.after)?;
     }
-    let after = Row::at(form, next)?;
-    piece.close(form, formed)?;
-    Some(after)
 }

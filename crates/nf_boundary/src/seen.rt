@@ -76,12 +76,24 @@ impl<'t> Seen<'t> {
         self.is_leading() || may_begin_with_mark(self.after)
     }
 
-    /// Whether it is left as it is, and so is the one after it, before which a text may be cut.
+    /// Whether a span comes, as far as it and the next character tell: both are left as they are, and a text may be cut between
+    /// them. In a form that composes, after what that changed, one character before another that composes is none, and a
+    /// character with one mark is one.
     #[inline(always)]
-    pub fn is_span_before(self, form: Form, next: Seen<'_>) -> bool
+    pub fn is_span_before(self, form: Form, next: Seen<'_>, is_after_changed: bool) -> bool
         requires { Sees next }
     {
-        self.known.is_yes(form) && next.known.is_yes(form) && next.is_boundary(form)
+        if !self.known.is_yes(form) || !next.known.is_yes(form) {
+            return false;
+        }
+        if !form.composes() || !is_after_changed {
+            return next.is_boundary(form);
+        }
+        if next.is_boundary(form) {
+            !next.goes_on()
+        } else {
+            !may_begin_with_mark(next.after)
+        }
     }
 
     /// Whether one look-up tells that a text may be cut before it: a starter whose compatibility decomposition begins with

@@ -169,15 +169,23 @@ fn letters_that_do_not_compose(rt: HostRuntime) -> Result<(), Fail> {
             "\u{995}\u{9BE}\u{9CB}\u{9BE}",
             "\u{995}",
         ),
+        // Marks out of order after such a letter, and one that decomposes.
+        (
+            "",
+            "a\u{1161}\u{301}\u{327}",
+            "a\u{1161}\u{327}\u{301}",
+            "b",
+        ),
+        (
+            "",
+            "a\u{301}\u{1161}\u{344}",
+            "\u{E1}\u{1161}\u{308}\u{301}",
+            "b",
+        ),
     ];
     check(&rt, rt.alloc(), Form::Nfc, &fronts)?;
     check(&rt, rt.alloc(), Form::Nfkc, &fronts)?;
-    let texts = [
-        "\u{1161}\u{1161}b",
-        "\u{1112}\u{1161}\u{1161}",
-        "a\u{1161}\u{301}\u{327}b",
-        "a\u{301}\u{1161}\u{344}b",
-    ];
+    let texts = ["\u{1161}\u{1161}b", "\u{1112}\u{1161}\u{1161}"];
     check_none(&rt, Form::Nfc, &texts);
     check_none(&rt, Form::Nfkc, &texts);
     Ok(())
@@ -186,7 +194,7 @@ fn letters_that_do_not_compose(rt: HostRuntime) -> Result<(), Fail> {
 /// As many as there is room for, or the front ends before them. With each letter a new run of marks begins.
 #[test]
 fn letters_up_to_the_room(rt: HostRuntime) -> Result<(), Fail> {
-    let vowels = "\u{1161}".repeat(rt.alloc(), 324)?;
+    let vowels = "\u{1161}".repeat(rt.alloc(), 340)?;
     let text = format!(in rt.alloc(); "a{vowels}b")?;
     assert_eq!(rt; checked(&rt, rt.alloc(), Form::Nfc, &text)?, Some("b"));
     let text = format!(in rt.alloc(); "e\u{301}e\u{301}a{vowels}b")?;

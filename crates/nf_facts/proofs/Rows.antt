@@ -9,7 +9,7 @@ use Rattle.unicode_normalization.proofs.DecomposeLemmas.{decompose-other, decomp
 use Rattle.unicode_normalization.proofs.FormsLemmas.{is_final-Nfkd}
 use Rattle.unicode_normalization.proofs.TableFacts.{by_rows, class_of_jamo, is_final}
 use Rattle.nf_forms.specs.Span.{IsMark}
-use Rattle.nf_forms.specs.Cluster.{IsOwnRow}
+use Rattle.nf_forms.specs.Forms.{IsOwnRow}
 use Rattle.nf_forms.specs.Ordering.{is_ordered}
 use Rattle.nf_forms.specs.Sound.{joiner_is_plain, is_sound}
 use Rattle.nf_forms.specs.Laws.Ordering.{is_ordered-starter}

@@ -1,5 +1,5 @@
 -- Canonical composition (The Unicode Standard, section 3.11, D114 to D117).
-use Rattle.std.specs.Prelude.{ℕ, nat_le, Bool, List, [], ◌∷◌, ◌++◌, Option, Some, None, if◌then◌else◌, fold}
+use Rattle.std.specs.Prelude.{ℕ, nat_le, nat_lt, Bool, ◌&&◌, List, [], ◌∷◌, ◌++◌, Option, Some, None, if◌then◌else◌, fold}
 use Rattle.std.specs.List.{list_any}
 use Rattle.nf_forms.specs.Properties.{Properties, is_starter}
 use Rattle.nf_forms.specs.Runs.{has_starter}
@@ -17,6 +17,10 @@ composite p a b = starter_only p (p.pair a b)
 -- D115: one of the marks after the starter keeps c from it
 abbrev pub is_blocked : Properties → List ℕ → ℕ → Bool
 is_blocked p marks c = list_any (λ m. nat_le (p.class c) (p.class m)) marks
+
+-- the same of its class, where `highest` is the greatest class of those marks, or 0 where there are none
+abbrev pub blocks : ℕ → ℕ → Bool
+blocks highest class = nat_lt 0 highest && nat_le class highest
 
 -- what c becomes with the starter, if they compose
 abbrev pub joined : Properties → ℕ → List ℕ → ℕ → Option ℕ

@@ -1,5 +1,5 @@
 -- The normalization forms (The Unicode Standard, section 3.11, D118 to D121).
-use Rattle.std.specs.Prelude.{ℕ, Bool, true, false, List}
+use Rattle.std.specs.Prelude.{◌≡◌, ℕ, Bool, true, false, List, [], ◌∷◌}
 use Rattle.std.specs.List.{flat_map}
 use Rattle.nf_forms.specs.Properties.{Properties}
 use Rattle.nf_forms.specs.declared.form.Form.{Form}
@@ -13,6 +13,11 @@ row_of Nfc p = p.canonical
 row_of Nfd p = p.canonical
 row_of Nfkc p = p.compat
 row_of Nfkd p = p.compat
+
+-- a character decomposes no further, in any form
+pub record IsOwnRow (p : Properties) (c : ℕ) : Type 0 where
+  pub canonical : p.canonical c ≡ c ∷ []
+  pub compat : p.compat c ≡ c ∷ []
 
 -- each character in the place of which its decomposition stands
 abbrev pub decomposed : Form → Properties → List ℕ → List ℕ

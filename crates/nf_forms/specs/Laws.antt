@@ -16,4 +16,3 @@ pub mod Segments
 pub mod Closing
 pub mod Audited
 pub mod SegmentForms
-pub mod Cluster

@@ -14,6 +14,5 @@ pub mod Sound
 pub mod Segments
 pub mod Audit
 pub mod Twice
-pub mod Cluster
 pub mod Ucd
 pub mod Laws

@@ -1,7 +1,7 @@
 -- A character of which no rows have to be read (UAX #15, section 9).
 use Rattle.std.specs.Prelude.{◌≡◌, ℕ, List, IsTrue}
 use Rattle.nf_forms.specs.Properties.{Properties}
-use Rattle.nf_forms.specs.Cluster.{IsOwnRow}
+use Rattle.nf_forms.specs.Forms.{IsOwnRow}
 use Rattle.nf_forms.specs.Sound.{is_sound}
 use Rattle.nf_forms.specs.Ucd.{ucd}
 use Rattle.nf_entry.specs.Entry.{IsEntry, IsOfFirst}

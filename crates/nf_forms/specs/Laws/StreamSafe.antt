@@ -12,7 +12,7 @@ use Rattle.nf_forms.specs.Properties.{Properties}
 use Rattle.nf_forms.specs.Runs.{has_starter, lead, trail, longest}
 use Rattle.nf_forms.specs.declared.form.Form.{Form}
 use Rattle.nf_forms.specs.declared.form.Form.TheVariants.{Nfc, Nfd, Nfkc, Nfkd}
-use Rattle.nf_forms.specs.Forms.{row_of, decomposed}
+use Rattle.nf_forms.specs.Forms.{IsOwnRow, row_of, decomposed}
 use Rattle.nf_forms.specs.StreamSafe.{joiner, max_run, is_too_long, with_room, safe_step, stream_safe}
 use Rattle.nf_forms.specs.Sound.{max_row, is_sound}
 use Rattle.nf_forms.specs.Laws.Last.{by_last}
@@ -29,6 +29,9 @@ module _ (p : Properties) where
 
   pub own_row : (c : ℕ) → p.canonical c ≡ c ∷ [] → p.compat c ≡ c ∷ [] → (f : Form) → row_of f p c ≡ c ∷ []
   own_row c canonical compat = of_rows (λ row. row c ≡ c ∷ []) canonical compat
+
+  pub row-own : (f : Form) (c : ℕ) → IsOwnRow p c → row_of f p c ≡ c ∷ []
+  row-own f c own = own_row c own.canonical own.compat f
 
   pub stream_safe-push : (x : List ℕ) (c : ℕ) → stream_safe p (x ++ c ∷ []) ≡ safe_step p (stream_safe p x) c
   stream_safe-push x c = fold-append (safe_step p) [] x (c ∷ [])

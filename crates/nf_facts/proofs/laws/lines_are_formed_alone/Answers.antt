@@ -7,7 +7,7 @@ use Rattle.ucd_normal.proofs.CompositionLemmas.{composite-paired_with}
 use Rattle.unicode_normalization.specs.Compose.{primary_composite}
 use Rattle.unicode_normalization.specs.Hangul.{compose_hangul}
 use Rattle.nf_forms.specs.Closing.{IsClosing}
-use Rattle.nf_forms.specs.Laws.Cluster.{row-own}
+use Rattle.nf_forms.specs.Laws.StreamSafe.{row-own}
 use Rattle.nf_facts.specs.LineFeed.{line_feed}
 use Rattle.nf_facts.proofs.Ranges.{IsPlain-ascii}
 use Rattle.nf_forms.specs.Ucd.{ucd}

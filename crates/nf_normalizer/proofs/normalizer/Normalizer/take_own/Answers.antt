@@ -1,5 +1,5 @@
 use Rattle.nf_normalizer.proofs.Common.{sym}
-use Rattle.nf_forms.specs.Laws.Cluster.{row-own}
+use Rattle.nf_forms.specs.Laws.StreamSafe.{row-own}
 use Rattle.nf_normalizer.proofs.CharacterLemmas.{TakesChar-row}
 use Rattle.nf_normalizer.proofs.normalizer.Normalizer.take_own.Goals as goal
 

@@ -1,5 +1,5 @@
 use Rattle.nf_boundary.proofs.Common.{ℕ, List, IsRow, Reaches}
-use Rattle.nf_boundary.proofs.front.take_front.Given as goal
+use Rattle.nf_boundary.proofs.front.decompose_front.Given as goal
 
 abbrev pub invariant-loop : goal.invariant-loop
 invariant-loop l = record {

@@ -1,9 +1,0 @@
-use Rattle.nf_boundary.proofs.Common.{rules}
-use Rattle.nf_boundary.proofs.PieceLemmas.{closes_shorter, reaches_more}
-use Rattle.nf_boundary.proofs.composing.compose_front.Goals as goal
-
-pub loop-after-smaller : goal.loop-after-smaller
-loop-after-smaller c = search (rules, closes_shorter)
-
-pub loop-after-preserved : goal.loop-after-preserved
-loop-after-preserved c = search (rules, reaches_more)

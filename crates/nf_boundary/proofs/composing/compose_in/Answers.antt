@@ -1,0 +1,10 @@
+use Rattle.nf_boundary.proofs.Common.{arith, rules}
+use Rattle.std.proofs.lemmas.Grind.{common_steps}
+use Rattle.nf_boundary.proofs.PieceLemmas.{closes_shorter, reaches_more}
+use Rattle.nf_boundary.proofs.composing.compose_in.Goals as goal
+
+pub loop-after-smaller : goal.loop-after-smaller
+loop-after-smaller c = search (rules, closes_shorter)
+
+pub loop-after-preserved : goal.loop-after-preserved
+loop-after-preserved c = grind (arith, common_steps, reaches_more)
