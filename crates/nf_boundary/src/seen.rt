@@ -63,22 +63,9 @@ impl<'t> Seen<'t> {
         Some(seen)
     }
 
-    /// Whether it is a leading consonant of Hangul that modern syllables have.
-    #[inline(always)]
-    pub fn is_leading(self) -> bool {
-        matches!(self.character, '\u{1100}'..='\u{1112}')
-    }
-
-    /// Whether it composes with what comes after it, by all that is likely: a leading consonant of Hangul, or a character
-    /// with a mark after it.
-    #[inline(always)]
-    pub fn goes_on(self) -> bool {
-        self.is_leading() || may_begin_with_mark(self.after)
-    }
-
     /// Whether a span comes, as far as it and the next character tell: both are left as they are, and a text may be cut between
-    /// them. In a form that composes, after what that changed, one character before another that composes is none, and a
-    /// character with one mark is one.
+    /// them. In a form that composes, after what that changed, a character with one mark is one too, but none is where the
+    /// character after it composes.
     #[inline(always)]
     pub fn is_span_before(self, form: Form, next: Seen<'_>, is_after_changed: bool) -> bool
         requires { Sees next }
@@ -90,9 +77,9 @@ impl<'t> Seen<'t> {
             return next.is_boundary(form);
         }
         if next.is_boundary(form) {
-            !next.goes_on()
+            !composes_on(next.text)
         } else {
-            !may_begin_with_mark(next.after)
+            !may_begin_with_mark(next.after) && !composes_on(next.after)
         }
     }
 
@@ -126,6 +113,29 @@ pub(crate) fn look_up(c: char) -> Entry
         return Entry::of_passing(c);
     }
     Entry::of(c)
+}
+
+/// Whether the first character composes with the one after it, by all that is likely: a leading consonant of Hangul that modern
+/// syllables have, or any other where the first bytes after it begin many that compose with what stands before them.
+#[inline(always)]
+fn composes_on(text: &str) -> bool {
+    let mut chars = text.chars();
+    let Some(first) = chars.next() else {
+        return false;
+    };
+    let after = chars.as_str().as_bytes();
+    if matches!(first, '\u{1100}'..='\u{1112}') {
+        return true;
+    }
+    if after.len() < 2 {
+        return false;
+    }
+    match after[0] {
+        0xCC | 0xCD | 0xE0 | 0xE1 | 0xF0 => true,
+        0xD9 => matches!(after[1], 0x93..=0x95),
+        0xE3 => after[1] == 0x82,
+        _ => false,
+    }
 }
 
 /// Whether the first bytes leave it open that a mark comes first: none comes before U+0300, nor where most letters of Greek,
