@@ -19,9 +19,14 @@ fn rows_between_boundaries(rt: HostRuntime) -> Result<(), Fail> {
         ),
         ("ab", "\u{2126}", "\u{3A9}", "c"),
         ("a", "\u{2126}", "\u{3A9}", "\u{2126}\u{301}"),
-        // One character between two, and more only where bytes leave it open that a mark comes.
-        ("", "\u{2126}a\u{2126}", "\u{3A9}a\u{3A9}", "bc\u{E9}"),
-        ("", "\u{2126}a\u{2126}bc", "\u{3A9}a\u{3A9}bc", "\u{2126}"),
+        // One character between two, and more only where bytes leave it open that the next composes.
+        ("", "\u{2126}a\u{2126}", "\u{3A9}a\u{3A9}", "bc\u{2126}"),
+        (
+            "",
+            "\u{2126}a\u{2126}be\u{301}",
+            "\u{3A9}a\u{3A9}b\u{E9}",
+            "c",
+        ),
         (
             "",
             "\u{2126}\u{4E00}\u{F900}",
