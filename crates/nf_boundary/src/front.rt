@@ -10,7 +10,6 @@ ghost use Rattle.nf_boundary.specs.Stands.{Stands};
 
 use crate::after_span::{boundary_after, changed_after};
 use crate::apart::take_front_apart;
-use crate::composing::compose_front;
 use crate::pieces::{MOST_BEFORE, take_pieces};
 use crate::rows::{Row, changed};
 use crate::seen::{Seen, may_begin_with_mark};
@@ -83,7 +82,7 @@ fn take_front<'t>(form: Form, first: Row<'t>, len: usize, formed: &mut Formed) -
     ensures { (whole same : List ℕ) → Reaches form whole same formed.old.items first.entry.seen → Reaches form whole same formed.new.items result }
 {
     if form.composes() {
-        compose_front(form, first, formed)
+        take_pieces(form, first, formed)
     } else {
         decompose_front(form, first, len, formed)
     }

@@ -1,9 +1,9 @@
-ghost use Rattle.std.specs.Prelude.{◌≡◌, ℕ, List, false, take, length, IfSome, IsNone};
-ghost use Rattle.nf_forms.specs.Forms.{composes};
+ghost use Rattle.std.specs.Prelude.{◌≡◌, ℕ, List, take, length, IfSome, IsNone};
 ghost use Rattle.nf_boundary.specs.Seen.{IsAtBoundary};
 ghost use Rattle.nf_boundary.specs.Rows.{IsRow};
 ghost use Rattle.nf_boundary.specs.Pieces.{Closes, Reaches};
 
+use crate::composing::take_composed;
 use crate::piece::Piece;
 use crate::rows::Row;
 use crate::seen::Seen;
@@ -15,17 +15,19 @@ use nf_forms::Form;
 /// been read in vain.
 pub(crate) const MOST_BEFORE: usize = 896;
 
-/// Appends what the pieces become that the text begins with, in a form that does not compose, as far as boundaries come after
-/// them; answers the last boundary. It stands out of line, to keep its callers' loops short.
+/// Appends what the pieces become that the text begins with, as far as boundaries come after them; answers the last boundary.
+/// It stands out of line, to keep its callers' loops short.
+#[inline(never)]
 pub(crate) fn take_pieces<'t>(form: Form, first: Row<'t>, formed: &mut Formed) -> Seen<'t>
-    requires row { IsRow form first }
-    requires plain { composes form ≡ false }
+    requires { IsRow form first }
     ensures at { IsAtBoundary form result }
     ensures reaches { (whole same : List ℕ) → Reaches form whole same formed.old.items first.entry.seen → Reaches form whole same formed.new.items result }
 {
     match form {
+        Form::Nfc => pieces_in(Form::Nfc, first, formed),
+        Form::Nfd => pieces_in(Form::Nfd, first, formed),
+        Form::Nfkc => pieces_in(Form::Nfkc, first, formed),
         Form::Nfkd => pieces_in(Form::Nfkd, first, formed),
-        _ => pieces_in(Form::Nfd, first, formed),
     }
 }
 
@@ -38,15 +40,37 @@ fn pieces_in<'t>(form: Form, first: Row<'t>, formed: &mut Formed) -> Seen<'t>
 {
     let mut piece = Piece::new();
     let mut next = first;
-    while let Some(after) = take_piece(form, next, &mut piece, formed) {
+    while let Some(after) = take_next(form, next, &mut piece, formed) {
         next = after;
     }
     next.seen
 }
 
+/// The next piece, or in a form that composes what comes in place of one.
+#[inline(always)]
+fn take_next<'t>(
+    form: Form,
+    first: Row<'t>,
+    piece: &mut Piece,
+    formed: &mut Formed,
+) -> Option<Row<'t>>
+    requires { IsRow form first }
+    ensures closes { IfSome result (λ next. Closes form first.entry.seen.text.now next.seen formed.old.items formed.new.items) }
+    ensures row { IfSome result (λ next. IsRow form next) }
+    ensures stays { IsNone result → formed.new ≡ formed.old }
+{
+    if form.composes()
+        && first.members.is_empty()
+        && let Some(seen) = take_composed(form, first.seen, formed)
+    {
+        return Some(Row { seen, members: &[] });
+    }
+    take_piece(form, first, piece, formed)
+}
+
 /// Appends what a piece becomes, where a boundary comes after it, and answers that.
 #[inline(always)]
-pub(crate) fn take_piece<'t>(
+fn take_piece<'t>(
     form: Form,
     first: Row<'t>,
     piece: &mut Piece,
