@@ -1,5 +1,6 @@
 ghost use Rattle.std.specs.Prelude.{◌≡◌, true, IfSome, IsNone};
 ghost use Rattle.nf_forms.specs.Forms.{composes};
+ghost use Rattle.nf_span.specs.Scan.{form_of};
 ghost use Rattle.nf_boundary.specs.Seen.{IsAtBoundary};
 ghost use Rattle.nf_boundary.specs.Pieces.{Closes};
 
@@ -7,20 +8,20 @@ use crate::between::take_run;
 use crate::hangul::take_syllable;
 use crate::seen::{Seen, may_begin_with_mark};
 use crate::segments::Formed;
-use nf_forms::Form;
+use nf_span::form_of;
 
 /// Appends a span before a piece, or a syllable of Hangul, where one of these comes next, and answers the boundary after it.
 #[inline(always)]
-pub(crate) fn take_composed<'t>(
-    form: Form,
+pub(crate) fn take_composed<'t, const FORM: usize>(
     first: Seen<'t>,
     formed: &mut Formed,
 ) -> Option<Seen<'t>>
-    requires first { IsAtBoundary form first }
-    requires composing { composes form ≡ true }
-    ensures closes { IfSome result (λ next. Closes form first.entry.text.now next formed.old.items formed.new.items) }
+    requires first { IsAtBoundary (form_of FORM) first }
+    requires composing { composes (form_of FORM) ≡ true }
+    ensures closes { IfSome result (λ next. Closes (form_of FORM) first.entry.text.now next formed.old.items formed.new.items) }
     ensures stays { IsNone result → formed.new ≡ formed.old }
 {
+    let form = form_of(FORM);
     if may_begin_run(first.after)
         && let Some(next) = take_run(form, first.text, formed)
     {

@@ -1,4 +1,5 @@
 ghost use Rattle.std.specs.Prelude.{◌≡◌, ℕ, List, take, length, IfSome, IsNone};
+ghost use Rattle.nf_span.specs.Scan.{form_of};
 ghost use Rattle.nf_boundary.specs.Seen.{IsAtBoundary};
 ghost use Rattle.nf_boundary.specs.Rows.{IsRow};
 ghost use Rattle.nf_boundary.specs.Pieces.{Closes, Reaches};
@@ -10,6 +11,7 @@ use crate::seen::Seen;
 use crate::segments::Formed;
 use nf_facts::laws;
 use nf_forms::Form;
+use nf_span::form_of;
 
 /// Where more bytes than this are there, the next piece is left for another front: it may have no room, and would then have
 /// been read in vain.
@@ -24,23 +26,22 @@ pub(crate) fn take_pieces<'t>(form: Form, first: Row<'t>, formed: &mut Formed) -
     ensures reaches { (whole same : List ℕ) → Reaches form whole same formed.old.items first.entry.seen → Reaches form whole same formed.new.items result }
 {
     match form {
-        Form::Nfc => pieces_in(Form::Nfc, first, formed),
-        Form::Nfd => pieces_in(Form::Nfd, first, formed),
-        Form::Nfkc => pieces_in(Form::Nfkc, first, formed),
-        Form::Nfkd => pieces_in(Form::Nfkd, first, formed),
+        Form::Nfc => pieces_in::<0>(first, formed),
+        Form::Nfd => pieces_in::<1>(first, formed),
+        Form::Nfkc => pieces_in::<2>(first, formed),
+        Form::Nfkd => pieces_in::<3>(first, formed),
     }
 }
 
 /// Each form has a copy of the loops of its own.
-#[inline(always)]
-fn pieces_in<'t>(form: Form, first: Row<'t>, formed: &mut Formed) -> Seen<'t>
-    requires { IsRow form first }
-    ensures at { IsAtBoundary form result }
-    ensures reaches { (whole same : List ℕ) → Reaches form whole same formed.old.items first.entry.seen → Reaches form whole same formed.new.items result }
+fn pieces_in<'t, const FORM: usize>(first: Row<'t>, formed: &mut Formed) -> Seen<'t>
+    requires { IsRow (form_of FORM) first }
+    ensures at { IsAtBoundary (form_of FORM) result }
+    ensures reaches { (whole same : List ℕ) → Reaches (form_of FORM) whole same formed.old.items first.entry.seen → Reaches (form_of FORM) whole same formed.new.items result }
 {
     let mut piece = Piece::new();
     let mut next = first;
-    while let Some(after) = take_next(form, next, &mut piece, formed) {
+    while let Some(after) = take_next::<FORM>(next, &mut piece, formed) {
         next = after;
     }
     next.seen
@@ -48,20 +49,20 @@ fn pieces_in<'t>(form: Form, first: Row<'t>, formed: &mut Formed) -> Seen<'t>
 
 /// The next piece, or in a form that composes what comes in place of one.
 #[inline(always)]
-fn take_next<'t>(
-    form: Form,
+fn take_next<'t, const FORM: usize>(
     first: Row<'t>,
     piece: &mut Piece,
     formed: &mut Formed,
 ) -> Option<Row<'t>>
-    requires { IsRow form first }
-    ensures closes { IfSome result (λ next. Closes form first.entry.seen.text.now next.seen formed.old.items formed.new.items) }
-    ensures row { IfSome result (λ next. IsRow form next) }
+    requires { IsRow (form_of FORM) first }
+    ensures closes { IfSome result (λ next. Closes (form_of FORM) first.entry.seen.text.now next.seen formed.old.items formed.new.items) }
+    ensures row { IfSome result (λ next. IsRow (form_of FORM) next) }
     ensures stays { IsNone result → formed.new ≡ formed.old }
 {
+    let form = form_of(FORM);
     if form.composes()
         && first.members.is_empty()
-        && let Some(seen) = take_composed(form, first.seen, formed)
+        && let Some(seen) = take_composed::<FORM>(first.seen, formed)
     {
         return Some(Row { seen, members: &[] });
     }

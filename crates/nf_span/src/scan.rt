@@ -13,7 +13,7 @@ use nf_forms::Form;
 
 /// The form of a number, for what has a copy for each.
 #[inline(always)]
-fn form_of(number: usize) -> Form
+pub fn form_of(number: usize) -> Form
     ensures { result ≡ form_of number }
 {
     match number {

@@ -4,7 +4,7 @@ use Rattle.nf_boundary.proofs.PieceLemmas.{closes_shorter, reaches_more}
 use Rattle.nf_boundary.proofs.pieces.pieces_in.Goals as goal
 
 pub loop-after-smaller : goal.loop-after-smaller
-loop-after-smaller c = search (rules, closes_shorter)
+loop-after-smaller g c = search (rules, closes_shorter)
 
 pub loop-after-preserved : goal.loop-after-preserved
-loop-after-preserved c = grind (arith, common_steps, reaches_more)
+loop-after-preserved g c = grind (arith, common_steps, reaches_more)
