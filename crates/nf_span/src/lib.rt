@@ -17,6 +17,6 @@ mod span;
 mod wide;
 mod window;
 
-pub use scan::form_of;
 pub use front::{near_text, span_text};
+pub use scan::form_of;
 pub use span::{Span, SpanText};
