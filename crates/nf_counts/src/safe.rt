@@ -16,7 +16,7 @@ use nf_lanes::LANES;
 use nf_utf8::ascii_prefix;
 
 /// So many times pairs are asked at once after lead bytes told nothing: that they may again is not to be guessed each time.
-const PAIRED_STEPS: usize = 8;
+const PAIRED_STEPS: u8 = 8;
 
 /// A text in two: a front that is in the Stream-Safe Text Format (UAX #15, section 13), and the rest.
 #[derive(Clone, Copy, Debug)]
@@ -112,38 +112,23 @@ fn last_start(text: &str) -> usize
 {
     laws::every_character_is_sound();
     let bytes = text.as_bytes();
-    let first = ascii_prefix(bytes).saturating_sub(1);
-    let mut at = last_near(text, first, false, usize::MAX);
-    while bytes.len() - at > 2 * LANES
-        && let Some(place) = far_start(bytes, at)
-    {
-        let paired = last_near(text, place, true, PAIRED_STEPS);
-        at = last_near(text, paired, false, usize::MAX);
-    }
-    at
-}
-
-/// The last place that so many steps find, of 15 bytes each, while one is found in each. By itself this loop keeps its tables in
-/// registers.
-#[inline(always)]
-fn last_near(text: &str, first: usize, by_pairs: bool, steps: usize) -> usize
-    requires { StandsAt ucd text.now first }
-    ensures stands { StandsAt ucd text.now result }
-    ensures order { first ≤ result }
-{
-    laws::every_character_is_sound();
-    let bytes = text.as_bytes();
-    let mut at = first;
-    let mut from = first;
-    let mut left = steps;
-    while left > 0 && bytes.len() - from > 2 * LANES {
-        let run = before_next_start(bytes, from, by_pairs);
-        if run >= LANES {
-            break;
+    let mut at = ascii_prefix(bytes).saturating_sub(1);
+    let mut from = at;
+    let mut paired_steps: u8 = 0;
+    while bytes.len() - from > 2 * LANES {
+        let run = before_next_start(bytes, from, paired_steps > 0);
+        if run < LANES {
+            at = from + run;
+            from += LANES - 1;
+            paired_steps = paired_steps.saturating_sub(1);
+        } else {
+            let Some(place) = far_start(bytes, at) else {
+                break;
+            };
+            at = place;
+            from = place;
+            paired_steps = PAIRED_STEPS;
         }
-        at = from + run;
-        from += LANES - 1;
-        left -= 1;
     }
     at
 }
