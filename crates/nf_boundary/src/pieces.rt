@@ -17,8 +17,8 @@ use nf_span::form_of;
 /// been read in vain.
 pub(crate) const MOST_BEFORE: usize = 896;
 
-/// Appends what the pieces become that the text begins with, as far as boundaries come after them; answers the last boundary.
-/// It stands out of line, to keep its callers' loops short.
+/// Appends what the pieces become that the text begins with, and in a form that composes the spans and syllables between them,
+/// as far as boundaries come after; answers the last boundary. It stands out of line, to keep its callers' loops short.
 #[inline(never)]
 pub(crate) fn take_pieces<'t>(form: Form, first: Row<'t>, formed: &mut Formed) -> Seen<'t>
     requires { IsRow form first }
@@ -33,7 +33,7 @@ pub(crate) fn take_pieces<'t>(form: Form, first: Row<'t>, formed: &mut Formed) -
     }
 }
 
-/// Each form has a copy of the loops of its own.
+/// Each form has a copy of the loops of its own, by a constant, so that a step has one caller, in whose line it stands.
 fn pieces_in<'t, const FORM: usize>(first: Row<'t>, formed: &mut Formed) -> Seen<'t>
     requires { IsRow (form_of FORM) first }
     ensures at { IsAtBoundary (form_of FORM) result }

@@ -210,21 +210,6 @@ fn letters_up_to_the_room(rt: HostRuntime) -> Result<(), Fail> {
     Ok(())
 }
 
-/// As many syllables as there is room for.
-#[test]
-fn syllables_up_to_the_room(rt: HostRuntime) -> Result<(), Fail> {
-    let letters = "\u{1112}\u{1161}\u{11AB}";
-    let many = letters.repeat(rt.alloc(), 400)?;
-    let text = format!(in rt.alloc(); "{many}b")?;
-    let left = letters.repeat(rt.alloc(), 59)?;
-    let after = format!(in rt.alloc(); "{left}b")?;
-    assert_eq!(rt;
-        checked(&rt, rt.alloc(), Form::Nfc, &text)?,
-        Some(after.as_str())
-    );
-    Ok(())
-}
-
 #[test]
 fn decomposed(rt: HostRuntime) -> Result<(), Fail> {
     let fronts = [

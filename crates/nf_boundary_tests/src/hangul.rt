@@ -1,5 +1,5 @@
 //! All Hangul syllables, by the arithmetic of The Unicode Standard, section 3.12.
-use crate::reference::{segments_of, text_of};
+use crate::reference::{checked, segments_of, text_of};
 use nf_boundary::Formed;
 use nf_forms::Form;
 use std::test::Fail;
@@ -29,5 +29,20 @@ fn each_syllable_both_ways(rt: HostRuntime) -> Result<(), Fail> {
         assert!(rt; segments.is_some(), "{index}");
         assert_eq!(rt; text_of(&formed), letters.as_str(), "{index}");
     }
+    Ok(())
+}
+
+/// As many syllables as there is room for.
+#[test]
+fn syllables_up_to_the_room(rt: HostRuntime) -> Result<(), Fail> {
+    let letters = "\u{1112}\u{1161}\u{11AB}";
+    let many = letters.repeat(rt.alloc(), 400)?;
+    let text = format!(in rt.alloc(); "{many}b")?;
+    let left = letters.repeat(rt.alloc(), 59)?;
+    let after = format!(in rt.alloc(); "{left}b")?;
+    assert_eq!(rt;
+        checked(&rt, rt.alloc(), Form::Nfc, &text)?,
+        Some(after.as_str())
+    );
     Ok(())
 }

@@ -11,7 +11,7 @@ use nf_entry::Entry;
 use nf_facts::laws;
 use nf_forms::Form;
 
-/// The form of a number, for what has a copy for each.
+/// The form of a number, for what has a copy for each: NFC, NFD and NFKC of 0, 1 and 2, and NFKD of any other.
 #[inline(always)]
 pub fn form_of(number: usize) -> Form
     ensures { result ≡ form_of number }
