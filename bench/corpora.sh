@@ -20,6 +20,7 @@ packages_of() { # packages_of LANGUAGE
         japanese) echo libreoffice-help-ja ;;
         chinese) echo libreoffice-help-zh-cn ;;
         russian) echo libreoffice-help-ru ;;
+        greek) echo libreoffice-help-el ;;
         hindi) echo libreoffice-help-hi libreoffice-l10n-hi firefox-esr-l10n-hi-in ;;
         arabic) echo libreoffice-l10n-ar firefox-esr-l10n-ar thunderbird-l10n-ar ;;
         hebrew) echo libreoffice-l10n-he firefox-esr-l10n-he thunderbird-l10n-he ;;
@@ -46,7 +47,7 @@ unpack() { # unpack LANGUAGE: its packages, each in a folder of $folder/unpacked
 mkdir -p "$folder/packages"
 folder=$(cd "$folder" && pwd)
 rm -rf "$folder/unpacked"
-for language in ascii french vietnamese korean japanese chinese russian hindi arabic hebrew; do
+for language in ascii french vietnamese korean japanese chinese russian greek hindi arabic hebrew; do
     unpack "$language"
 done
 say "taking the texts out of the packages; this takes some minutes"

@@ -25,6 +25,7 @@ SCRIPTS = {
     "hebrew": "\u0590-\u05ff",
     "hindi": "\u0900-\u097f",
     "russian": "\u0400-\u04ff",
+    "greek": "\u0370-\u03ff",
 }
 
 

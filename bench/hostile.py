@@ -117,7 +117,7 @@ HOSTILE = [
     Hostile("a and 80, in turns, `--replace --assigned`", b"", b"a\x80", "french", True),
     Hostile("bytes F0 alone, `--replace --assigned`", b"", b"\xf0", "french", True),
     again("0 and U+0653, in turns", "0\u0653", "arabic"),
-    again("U+0378, unassigned", "\u0378", "hebrew"),
+    again("U+0378, unassigned", "\u0378", "greek"),
     again("U+1F600", "\U0001f600", "japanese"),
     again("U+F0000, for private use", "\U000f0000", "japanese"),
 ]

@@ -15,6 +15,7 @@ REAL = {
     "japanese": "Japanese",
     "chinese": "Chinese",
     "russian": "Russian",
+    "greek": "Greek",
     "hindi": "Hindi",
     "arabic": "Arabic",
     "hebrew": "Hebrew",

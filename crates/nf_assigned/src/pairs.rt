@@ -3,7 +3,7 @@
 //!
 //! Most pairs are a lead byte and its second. The third byte is asked by pairs of the last two, where a block of 64 code
 //! points is much used and has few holes, as hiragana and fullwidth letters. The first family tells most of what is written
-//! by itself, and the second Hebrew and Hangul.
+//! by itself, and the second Hebrew, Greek and Hangul.
 
 use nf_lanes::Pairs;
 
@@ -19,12 +19,12 @@ pub(crate) static FIRST: Pairs = Pairs {
 };
 
 pub(crate) static SECOND: Pairs = Pairs {
-    first_high: [0, 0, 0, 0, 0, 0, 0, 0, 0, 0, 0, 1, 152, 237, 114, 251],
+    first_high: [0, 0, 0, 0, 0, 0, 0, 0, 0, 0, 0, 0, 156, 53, 114, 254],
     first_low: [
-        190, 175, 246, 190, 191, 204, 86, 12, 194, 82, 220, 13, 132, 76, 179, 121,
+        251, 187, 251, 107, 119, 152, 208, 13, 8, 216, 212, 8, 1, 29, 169, 163,
     ],
-    next_high: [0, 0, 0, 0, 0, 0, 0, 0, 154, 242, 119, 43, 0, 0, 0, 0],
+    next_high: [0, 0, 0, 0, 0, 0, 0, 0, 79, 114, 243, 39, 0, 0, 0, 0],
     next_low: [
-        224, 18, 179, 51, 176, 56, 56, 184, 184, 186, 11, 159, 238, 31, 207, 127,
+        60, 74, 236, 106, 104, 236, 108, 124, 108, 102, 38, 107, 19, 111, 51, 119,
     ],
 };

@@ -2,5 +2,3 @@ mod Told
 mod PieceLemmas
 mod PlainLemmas
 mod WindowLemmas
-mod StartLemmas
-mod SafeLemmas

@@ -25,7 +25,7 @@ use Rattle.nf_counts.specs.Counts.{HasValue, IsValued, unassigned_in}
 use Rattle.nf_counts.specs.Piece.{IsPiece}
 use Rattle.nf_counts.specs.declared.piece.Piece.{Piece}
 use Rattle.nf_counts.specs.Window.{AreTold}
-use Rattle.nf_counts.specs.declared.pairs.TheConstants.{KANA, LOOKS}
+use Rattle.nf_counts.specs.declared.pairs.TheConstants.{GREEK, KANA, LOOKS}
 use Rattle.nf_counts.specs.declared.rows.TheConstants.{INDEX, WORDS}
 use Rattle.nf_counts.proofs.Told.{told, told-ascii, told-valued, told-block}
 
@@ -72,11 +72,12 @@ module _ (sound : (c : ℕ) → is_sound ucd c ≡ true) where
     is_low = omega arith;
   }
 
-  -- so is a character that the two families do not find, or the one of kana
-  tells : (b : Bool) → Tells _ _ _ known (cond b (finds LOOKS) (is_in KANA))
+  -- so is a character that the two families do not find, or the one of kana, or the one of Greek
+  tells : (b : Bool × Bool) → Tells _ _ _ known (cond b.0 (finds LOOKS) (cond b.1 (is_in KANA) (is_in GREEK)))
   unfolding all_below block_value known
-  tells true = record { of_two = refl; of_three = refl; of_four = refl }
-  tells false = record { of_two = refl; of_three = refl; of_four = refl }
+  tells (true, b) = record { of_two = refl; of_three = refl; of_four = refl }
+  tells (false, true) = record { of_two = refl; of_three = refl; of_four = refl }
+  tells (false, false) = record { of_two = refl; of_three = refl; of_four = refl }
 
   -- characters of which none is looked up are a piece of the value 0
   pub plain_piece : (text : List ℕ) (len : ℕ) → IsUtf8 text → IsCharBoundary text len → 0 < len → AreTold text 0 len → IsPiece ucd text record { len = len; value = 0 }
@@ -84,7 +85,8 @@ module _ (sound : (c : ℕ) → is_sound ucd c ≡ true) where
       let cs = chars (take len text) in
       let same : encode_utf8_all cs ≡ take len text = encodes-chars _ (IsUtf8-take text len u boundary) in
       let long : length (encode_utf8_all cs) ≡ len = rw same (length-take-le len text boundary.0) in
-      let plain = told_front _ _ _ _ Bool _ tells text len len u boundary (omega arith) (λ k inside high. ⊎_elim (λ both. (true, both)) (λ kana. (false, kana)) (none k (omega arith) inside high)) in
+      let plain = told_front _ _ _ _ (Bool × Bool) _ tells text len len u boundary (omega arith)
+      (λ k inside high. ⊎_elim (λ both. ((true, true), both)) (λ other. ⊎_elim (λ kana. ((false, true), kana)) (λ greek. ((false, false), greek)) other) (none k (omega arith) inside high)) in
       record {
         chars = cs;
         begins = record { rest = drop len text; split = rw (same, take-append-drop); rest_utf8 = IsUtf8-drop text len u boundary; is_long = sym long };

@@ -19,7 +19,7 @@ pub fn counted_front(room: u32, text: &str) -> Counted<'_>
     ensures { IsCountedFront ucd room text.now result }
 {
     let mut scan = Scan::new(text);
-    scan.pass_to(text.len(), room);
+    scan.pass_front(room);
     let (front, rest) = text.split_at(scan.at);
     Counted {
         front,

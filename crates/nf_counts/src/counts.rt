@@ -67,13 +67,18 @@ impl Counts {
             self.has_starter = true;
             return true;
         }
+        if value == UNASSIGNED {
+            self.trail = 0;
+            self.has_starter = true;
+            self.unassigned += 1;
+            return true;
+        }
         let marks = value % 4;
-        if value >= 8 {
+        if value > UNASSIGNED {
             self.nonstarters += u128::from(marks);
             self.longest = self.longest.max(marks.min(1));
             self.trail = marks.min(value / 4 - 2);
             self.has_starter = true;
-            self.unassigned += u64::from(value == UNASSIGNED);
             return true;
         }
         let trail = self.trail + marks;

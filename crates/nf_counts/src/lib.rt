@@ -7,12 +7,9 @@ mod counts;
 mod pairs;
 mod piece;
 mod rows;
-mod safe;
 mod scan;
-mod starts;
 mod table;
 mod window;
 
 pub use counted::{Counted, counted_front};
 pub use counts::Counts;
-pub use safe::{SafeFront, safe_front};

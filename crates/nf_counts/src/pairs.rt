@@ -3,7 +3,7 @@
 //!
 //! Most pairs are a lead byte and its second. The last two bytes are asked where a block of 64 code points is much used and few
 //! of it are looked up: E2 80 and E3 80, punctuation; EF BC, fullwidth letters; E0 A4 and E0 A5, Devanagari. Kana are found, and
-//! asked by a family of their own, of the last two bytes, which tells which of them have a mark.
+//! asked by a family of their own, of the last two bytes, which tells which of them have a mark; and so are Greek letters.
 
 use nf_lanes::{Looks, Pairs};
 
@@ -38,4 +38,12 @@ pub(crate) static KANA: Pairs = Pairs {
     next_low: [
         244, 49, 122, 57, 164, 240, 165, 241, 164, 241, 164, 161, 187, 165, 235, 160,
     ],
+};
+
+/// The same by one family for Greek: of two bytes it finds all but Greek letters that have no mark, and all of three and four.
+pub(crate) static GREEK: Pairs = Pairs {
+    first_high: [0, 0, 0, 0, 0, 0, 0, 0, 0, 0, 0, 0, 125, 3, 3, 3],
+    first_low: [1, 1, 1, 1, 1, 1, 1, 1, 1, 1, 1, 1, 1, 1, 62, 74],
+    next_high: [0, 0, 0, 0, 0, 0, 0, 0, 15, 83, 43, 19, 0, 0, 0, 0],
+    next_low: [23, 7, 39, 71, 71, 7, 7, 7, 7, 7, 15, 15, 15, 15, 15, 15],
 };

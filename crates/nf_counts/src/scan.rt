@@ -2,6 +2,7 @@ ghost use Rattle.std.specs.Prelude.{◌≤◌};
 
 use crate::counts::Counts;
 use crate::piece::{Piece, first_character, first_piece};
+use crate::table::UNASSIGNED;
 use crate::window::Window;
 use nf_facts::laws;
 
@@ -18,7 +19,7 @@ pub(crate) struct Scan<'t> {
 }
 
 impl<'t> Scan<'t> {
-    ghost use Rattle.std.specs.Prelude.{◌≡◌, ◌<◌, ◌+◌, ℕ, length, drop, true, IsTrue};
+    ghost use Rattle.std.specs.Prelude.{◌≡◌, ◌<◌, ◌+◌, ◌-◌, ℕ, length, drop, true, IsTrue};
     ghost use Rattle.std.specs.Str.{IsCharBoundary};
     ghost use Rattle.nf_forms.specs.Ucd.{ucd};
     ghost use Rattle.nf_counts.specs.Piece.{IsPiece};
@@ -38,17 +39,16 @@ impl<'t> Scan<'t> {
         }
     }
 
-    /// Goes on until so many bytes stand before the place, as far as no run gets too long, and no more than `room` non-starters
-    /// stand before the first starter.
+    /// Goes on as far as no run gets too long, and no more than `room` non-starters stand before the first starter.
     #[inline(always)]
-    pub fn pass_to(&mut self, to: usize, room: u32)
-        requires reaches { Reaches ucd room self.old }
-        requires within { to ≤ length self.old.text.now }
+    pub fn pass_front(&mut self, room: u32)
+        requires { Reaches ucd room self.old }
         ensures text { self.new.text.now ≡ self.old.text.now }
         ensures reaches { Reaches ucd room self.new }
     {
-        if self.pass_pieces(PIECEWISE_LEN.min(to), room) && self.pass_windows(to, room) {
-            self.pass_pieces(to, room);
+        let len = self.text.len();
+        if self.pass_pieces(PIECEWISE_LEN.min(len), room) && self.pass_windows(room) {
+            self.pass_pieces(len, room);
         }
     }
 
@@ -61,7 +61,8 @@ impl<'t> Scan<'t> {
         ensures reaches { Reaches ucd room self.new }
     {
         while self.at < to {
-            if !self.pass(first_piece(&self.text[self.at..]), room) {
+            let Piece { len, value } = first_piece(&self.text[self.at..]);
+            if !self.pass(self.at + len, value, room) {
                 return false;
             }
         }
@@ -70,15 +71,14 @@ impl<'t> Scan<'t> {
 
     /// Goes on by windows, as far as there are bytes for one; answers whether there may be more.
     #[inline(always)]
-    fn pass_windows(&mut self, to: usize, room: u32) -> bool
-        requires reaches { Reaches ucd room self.old }
-        requires within { to ≤ length self.old.text.now }
+    fn pass_windows(&mut self, room: u32) -> bool
+        requires { Reaches ucd room self.old }
         ensures text { self.new.text.now ≡ self.old.text.now }
         ensures reaches { Reaches ucd room self.new }
     {
         let text = self.text;
         let mut base = self.at;
-        while to.saturating_sub(base) > 64 {
+        while text.len().saturating_sub(base) > 64 {
             if !self.pass_window(base, room) {
                 return false;
             }
@@ -124,17 +124,17 @@ impl<'t> Scan<'t> {
         ensures reaches { Reaches ucd room self.new }
     {
         laws::every_character_is_sound();
-        let len = place - self.at + character.len;
+        let end = place + character.len;
         let value = character.value;
         if value < 4 {
-            return self.pass(Piece { len, value }, room);
+            return self.pass(end, value, room);
         }
-        let value = if self.at < place && value < 8 {
+        let value = if self.at < place && value < UNASSIGNED {
             value % 4
         } else {
             value
         };
-        self.pass(Piece { len, value }, room)
+        self.pass(end, value, room)
     }
 
     /// Goes on to a place before which none is looked up.
@@ -150,25 +150,25 @@ impl<'t> Scan<'t> {
     {
         laws::every_character_is_sound();
         if self.at < place {
-            let len = place - self.at;
-            self.pass(Piece { len, value: 0 }, room);
+            self.pass(place, 0, room);
         }
     }
 
-    /// Goes on after a piece, if it may.
+    /// Goes on after what ends there, of this value, if it may.
     #[inline(always)]
-    fn pass(&mut self, piece: Piece, room: u32) -> bool
+    fn pass(&mut self, end: usize, value: u32, room: u32) -> bool
         requires reaches { Reaches ucd room self.old }
-        requires piece { IsPiece ucd (drop self.old.at self.old.text.now) piece }
+        requires order { self.old.at ≤ end }
+        requires piece { IsPiece ucd (drop self.old.at self.old.text.now) (record { len = end - self.old.at; value = value }) }
         ensures text { self.new.text.now ≡ self.old.text.now }
-        ensures further { IsTrue result → self.new.at ≡ self.old.at + piece.len }
-        ensures passes { piece.value ≡ 0 → result ≡ true }
+        ensures further { IsTrue result → self.new.at ≡ end }
+        ensures passes { value ≡ 0 → result ≡ true }
         ensures reaches { Reaches ucd room self.new }
     {
-        if !self.counts.add(piece.value, room) {
+        if !self.counts.add(value, room) {
             return false;
         }
-        self.at += piece.len;
+        self.at = end;
         true
     }
 }

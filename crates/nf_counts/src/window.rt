@@ -1,6 +1,6 @@
 //! 63 bytes of a text at once: where characters begin that have to be looked up.
 
-use crate::pairs::{KANA, LOOKS};
+use crate::pairs::{GREEK, KANA, LOOKS};
 use nf_lanes::found_leads;
 
 /// Places of a text that are still to be looked up.
@@ -24,7 +24,7 @@ impl Window {
     {
         Window {
             base,
-            found: found_leads(&LOOKS, &KANA, text.as_bytes(), base),
+            found: found_leads(&LOOKS, &KANA, &GREEK, text.as_bytes(), base),
         }
     }
 

@@ -2,6 +2,4 @@
 #![tactic(auto)]
 
 #[cfg(test)]
-mod safe;
-#[cfg(test)]
 mod sweep;

@@ -1,5 +1,5 @@
 //! Every scalar value against the look-ups that are made one by one.
-use nf_counts::{Counted, counted_front, safe_front};
+use nf_counts::{Counted, counted_front};
 use nf_seeded::Seeded;
 use std::test::Fail;
 use unicode::properties::GeneralCategory;
@@ -143,19 +143,6 @@ const SOME: [char; 32] = [
     '\u{10FFFF}',
 ];
 
-/// Whether the front of which bytes tell that it is in the format is so, and begins and ends as they tell, of the text that is of
-/// these characters.
-fn is_safe(room: u32, text: &str, chars: &[char]) -> bool {
-    let safe = safe_front(room, text);
-    let Some(front) = chars.get(..safe.front.chars().count()) else {
-        return false;
-    };
-    let (count, (_, _, lead, trail, has_starter, _)) = counted_plainly(room, front);
-    count == front.len()
-        && (lead, trail, has_starter) == (safe.lead, safe.trail, safe.has_starter)
-        && text.len() == safe.front.len().saturating_add(safe.rest.len())
-}
-
 /// Up to 200 characters, drawn from some, each a few times in a row, so that there are runs of ASCII and of marks.
 #[test]
 fn fronts_are_counted_as_their_characters(rt: HostRuntime) -> Result<(), Fail> {
@@ -188,7 +175,6 @@ fn fronts_are_counted_as_their_characters(rt: HostRuntime) -> Result<(), Fail> {
         assert_eq!(rt; counted.front.chars().count(), count, "{turn} {text}");
         assert_eq!(rt; counts_of(&counted), counts, "{turn} {text}");
         assert_eq!(rt; counted.front.len().saturating_add(counted.rest.len()), len);
-        assert!(rt; is_safe(room, text, &chars), "{turn} {text}");
     }
     Ok(())
 }

@@ -192,9 +192,3 @@ pub fn hangul_letters_are_their_own_rows()
     ensures starter { (c : ℕ) → 0x1100 ≤ c → c < 0x1200 → canonical_combining_class c ≡ 0 }
     ensures own { (c : ℕ) → 0x1100 ≤ c → c < 0x1200 → IsOwnRow ucd c }
 {}
-
-/// The leading consonants of Hangul (The Unicode Standard, section 3.12) pass the quick check of each form.
-#[inline]
-pub fn leading_consonants_pass()
-    ensures { (f : Form) (c : ℕ) → 0x1100 ≤ c → c < 0x1113 → quick_check (kit_form f) c ≡ Yes }
-{}

@@ -1,7 +1,7 @@
--- 16 places, what is read from them, and the first whose bit is set.
-use Rattle.std.proofs.Common.{◌≡◌, ℕ, zero, suc, ◌+◌, ◌-◌, ◌*◌, ◌<◌, ◌≤◌, ◌==◌, Bool, false, not, cond, bit_or, List, map, length, get_or, eqb, refl, sym, ap, ◌∙◌, arith}
+-- 16 places, and what is read from them.
+use Rattle.std.proofs.Common.{◌≡◌, ℕ, zero, suc, ◌+◌, ◌-◌, ◌*◌, ◌<◌, ◌≤◌, ◌==◌, Bool, false, not, cond, bit_or, List, map, length, get_or, refl, sym, ap, ◌∙◌, arith}
 use Rattle.std.specs.List.{prefix_len, range_with_len}
-use Rattle.std.proofs.lemmas.List.Sums.{prefix_len-le-length, prefix_len_passes, prefix_len_stops}
+use Rattle.std.proofs.lemmas.List.Sums.{prefix_len_passes}
 use Rattle.std.specs.Int.{bit_at}
 use Rattle.std.proofs.lemmas.Bool.Decides.{nat_tests}
 use Rattle.std.proofs.lemmas.List.{get_or-map, length-map}
@@ -10,8 +10,7 @@ use Rattle.std.proofs.lemmas.Nat.Bits.{bit_at_cat_low, bit_at_cat_high}
 use Rattle.std.proofs.lemmas.List.FromFn.{get_or-range_with_len, length-range_with_len}
 use Rattle.std.proofs.lemmas.Simd.{map-map, pick_l-range_with_len, first_set_mask_l, mask_l-lt, bit_mask_l}
 use lib.Lanes.{chunk, mask_l}
-use lib.Count.{count_trailing_zeros}
-use Rattle.nf_lanes.specs.Lanes.{places, bits_at, NonePass, StopsAt}
+use Rattle.nf_lanes.specs.Lanes.{places, bits_at, NonePass}
 
 pub length-places : (at : ℕ) → length (places at) ≡ 16
 unfolding places
@@ -38,22 +37,14 @@ unfolding places
 places_after h at n = range_after h at n 16
 
 module _ (p : ℕ → Bool) (at found : ℕ) (is : found ≡ bits_at p at) where
-  -- how many stand before the first whose bit is set
-  pub stops_at : (run : ℕ) → run ≡ cond (eqb found 0) 16 (count_trailing_zeros 64 found) → StopsAt p at run
-  stops_at run counted = record {
-    within = omega (arith, run_is, length-places at, prefix_len-le-length fails (places at));
-    none = λ k low high. grind (arith, run_is, length-places at, get_or-places at (k - at), prefix_len-le-length fails (places at), prefix_len_passes fails (places at) (k - at) 0);
-    stops = λ short. grind (arith, run_is, length-places at, get_or-places at run, prefix_len_stops fails (places at) 0);
-  }
+  pub none_from_zero : found ≡ 0 → NonePass p at 16
+  none_from_zero none = λ k low high. grind (arith, all, get_or-places at (k - at), prefix_len_passes fails (places at) (k - at) 0)
     where
       fails : ℕ → Bool
       fails k = not (p k)
 
-      run_is : run ≡ prefix_len fails (places at)
-      run_is = rw is at counted ∙ first_set_mask_l p (places at) 16 (length-places at) (omega arith)
-
-  pub none_from_zero : found ≡ 0 → NonePass p at 16
-  none_from_zero none = (stops_at 16 (rw none refl)).none
+      all : 16 ≡ prefix_len fails (places at)
+      all = rw (← is, none) at (first_set_mask_l p (places at) 16 (length-places at) (omega arith))
 
   pub zero_from_none : NonePass p at 16 → found ≡ 0
   unfolding places

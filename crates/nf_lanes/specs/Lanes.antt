@@ -1,5 +1,5 @@
 -- 16 places of a text, and a bit for each.
-use Rattle.std.specs.Prelude.{◌≡◌, ◌<◌, ◌≤◌, ℕ, ◌+◌, Bool, true, false, List, map}
+use Rattle.std.specs.Prelude.{◌≡◌, ◌<◌, ◌≤◌, ℕ, ◌+◌, Bool, false, List, map}
 use Rattle.std.specs.List.{range_with_len}
 use Rattle.std.specs.Simd.Lanes.{mask_l}
 
@@ -14,9 +14,3 @@ bits_at p at = mask_l (map p (places at))
 -- of n places from one on none passes
 abbrev pub NonePass : (ℕ → Bool) → ℕ → ℕ → Type 0
 NonePass p at n = (k : ℕ) → at ≤ k → k < at + n → p k ≡ false
-
--- so many of the 16 stand before the first that passes
-pub record StopsAt (p : ℕ → Bool) (at run : ℕ) : Type 0 where
-  pub within : run ≤ 16
-  pub none : NonePass p at run
-  pub stops : run < 16 → p (at + run) ≡ true

@@ -2,7 +2,7 @@
 
 ghost use Rattle.std.specs.Prelude.{◌≡◌, ◌<◌, ◌≤◌, ◌+◌, ℕ, Bool, length, slice_index, map, not, ◌==◌, bit_and, bit_or, nat_le, IsTrue, ◌↔◌, if◌then◌else◌};
 ghost use Rattle.std.specs.Int.{bit_at};
-ghost use Rattle.nf_lanes.specs.Lanes.{places, bits_at, NonePass, StopsAt};
+ghost use Rattle.nf_lanes.specs.Lanes.{places, bits_at, NonePass};
 
 use std::simd::prelude::*;
 
@@ -33,18 +33,6 @@ pub(crate) fn at_least(least: u8, bytes: &[u8], at: usize) -> u64
 {
     let lanes = u8x16::from_slice(&bytes[at..]);
     lanes.simd_ge(u8x16::splat(least)).to_bitmask()
-}
-
-/// How many places stand before the first whose bit is set.
-#[inline(always)]
-pub fn before(bits: u64) -> usize
-    ensures { (p : ℕ → Bool) (at : ℕ) → bits ≡ bits_at p at → StopsAt p at result }
-{
-    if bits == 0 {
-        LANES
-    } else {
-        bits.trailing_zeros() as usize
-    }
 }
 
 /// Whether all lanes are 0 of four times 16 places, one after the other.

@@ -6,6 +6,6 @@ mod lanes;
 mod looks;
 mod sets;
 
-pub use lanes::{LANES, before, bits, bits_of_either, none_of};
+pub use lanes::{LANES, bits, bits_of_either, none_of};
 pub use looks::{Looks, found_by_both, found_leads, none_found};
 pub use sets::{Pairs, Triples, byte_sets, pair_sets, triple_sets};

@@ -1,6 +1,6 @@
 //! Pairs of bytes at which a text is looked up, many at once.
 
-ghost use Rattle.std.specs.Prelude.{◌≡◌, ◌<◌, ◌≤◌, ◌+◌, ◌⊎◌, ℕ, IsTrue, length, slice_index, if◌then◌else◌};
+ghost use Rattle.std.specs.Prelude.{◌≡◌, ◌<◌, ◌≤◌, ◌+◌, ◌⊎◌, ℕ, IsTrue, IfSome, length, slice_index, if◌then◌else◌};
 ghost use Rattle.std.specs.Int.{bit_at};
 ghost use Rattle.nf_lanes.specs.Lanes.{bits_at};
 ghost use Rattle.nf_lanes.specs.Looks.{is_in, finds, at_pair, NoneFound};
@@ -51,14 +51,14 @@ pub fn found_by_both(first: &Pairs, second: &Pairs, least: u8, bytes: &[u8], at:
 
 /// A bit for each of 63 bytes from `at` on, the lowest for the first: of those that begin more bytes than one, each at which a
 /// pair has to be looked up, or at the byte after it, is set; of a few all are, and all that the first family finds where those are
-/// few; and where three of three bytes stand in a row, as kana do in Japanese, only those of which a pair is in the other family,
-/// too.
+/// few; and where three of three bytes stand in a row, as kana do in Japanese, only those of which a pair is in `wide`, too, and
+/// where three of two bytes do, in `narrow`.
 #[inline(always)]
-pub fn found_leads(looks: &Looks, other: &Pairs, bytes: &[u8], at: usize) -> u64
+pub fn found_leads(looks: &Looks, wide: &Pairs, narrow: &Pairs, bytes: &[u8], at: usize) -> u64
     requires room { at + 64 < length bytes.now }
     ensures leads { (k : ℕ) → k < 64 → bit_at result k ≡ 1 → (k < 63) × (0xC0 ≤ slice_index bytes.now (at + k)) }
     ensures told { (k : ℕ) → k < 63 → bit_at result k ≡ 0 → 0xC0 ≤ slice_index bytes.now (at + k)
-        → NoneFound (finds looks.now) bytes.now (at + k) ⊎ NoneFound (is_in other.now) bytes.now (at + k) }
+        → NoneFound (finds looks.now) bytes.now (at + k) ⊎ NoneFound (is_in wide.now) bytes.now (at + k) ⊎ NoneFound (is_in narrow.now) bytes.now (at + k) }
 {
     let leads = high_bits(0xC0, bytes, at);
     if leads.count_ones() < MIN_LEADS {
@@ -71,11 +71,25 @@ pub fn found_leads(looks: &Looks, other: &Pairs, bytes: &[u8], at: usize) -> u64
     }
     let pairs = firsts & family_bits(&looks.second, bytes, at);
     let found = leads & (pairs | (pairs >> 1));
-    if found & (found >> 3) & (found >> 6) == 0 {
+    let Some(other) = other_of(found, wide, narrow) else {
         return found;
-    }
+    };
     let others = family_bits(other, bytes, at);
     found & (others | (others >> 1))
+}
+
+/// The family that is asked besides, by whether three of three bytes stand in a row of those that are found, or three of two.
+#[inline(always)]
+fn other_of<'a>(found: u64, wide: &'a Pairs, narrow: &'a Pairs) -> Option<&'a Pairs>
+    ensures { IfSome result (λ other. (other.now ≡ wide.now) ⊎ (other.now ≡ narrow.now)) }
+{
+    if found & (found >> 3) & (found >> 6) != 0 {
+        return Some(wide);
+    }
+    if found & (found >> 2) & (found >> 4) != 0 {
+        return Some(narrow);
+    }
+    None
 }
 
 /// A bit for each of 63 bytes from `at` on, the lowest for the first, that is `least` or above.

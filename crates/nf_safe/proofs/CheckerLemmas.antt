@@ -1,9 +1,9 @@
 -- A checker's steps.
 use Rattle.nf_safe.proofs.Common.{◌≡◌, ℕ, ◌+◌, ◌≤◌, true, false, not, List, [], ◌∷◌, ◌++◌, length, Some, None, is_some, encode_utf8, encode_utf8_all, sym, ap, ◌∙◌, arith, if◌then◌else◌, length-append, encodes-append, cond-true, cond-false, Properties, Nfkd, trail, decomposed, is_sound, passes, count_step, is_in_format, place_from, count_step-within, trail-decomposed-counted, is_in_format-push, is_in_format-join, is_in_format-short, decomposed-append, max_run, place_from-in_format, place_from-at, place_from-stays}
 use Rattle.std.specs.Prelude.{IsNone, chars}
-use Rattle.nf_counts.specs.Safe.{IsSafeFront}
-use Rattle.nf_counts.specs.declared.safe.SafeFront.{SafeFront}
-use Rattle.nf_safe.proofs.CountedLemmas.{IsFront}
+use Rattle.nf_counts.specs.Counts.{IsCountedFront}
+use Rattle.nf_counts.specs.declared.counted.Counted.{Counted}
+use Rattle.nf_safe.proofs.CountedLemmas.{IsCounted}
 use Rattle.nf_safe.proofs.RunsLemmas.{trail-after}
 use Rattle.nf_safe.specs.declared.place.Place.{Place}
 use Rattle.nf_safe.specs.declared.checker.Checker.{Checker}
@@ -52,20 +52,21 @@ module _ {base : ℕ} {p : Properties} {old : Checker} {x : List ℕ} (before : 
         (omega (arith, before.offset none, ap length (encodes-append x (c ∷ [])), length-append (encode_utf8_all x) (encode_utf8 c ++ []), length-append (encode_utf8 c) []))
         (rw (trail-decomposed-counted p x c, ← before.count none, ← count_step-within p old.counter (p.compat c) short) count)
 
--- after a front that is in the format
-pub goes_on-safe : {base : ℕ} {p : Properties} {old new : Checker} {x : List ℕ} {room : ℕ} {text : List ℕ} {safe : SafeFront} → StandsAfter base p old x → IsSafeFront p room text safe → IsFront p text safe.front.now safe.rest.now
-    → old.counter + safe.lead ≤ max_run → place_of old ≡ None → new.is_over ≡ old.is_over → new.reached.chars ≡ old.reached.chars + length (chars safe.front.now)
-    → new.reached.bytes ≡ old.reached.bytes + length safe.front.now → new.counter ≡ (if safe.has_starter then safe.trail else old.counter + safe.lead) → HasSeen base p new x text safe.rest.now
-goes_on-safe {base} {p} {old} {new} {x} {room} {text} {safe} before is at short on same chars_are bytes count =
+-- after a front that is counted
+pub goes_on-counted : {base : ℕ} {p : Properties} {old new : Checker} {x : List ℕ} {room : ℕ} {text : List ℕ} {counted : Counted} → StandsAfter base p old x → IsCountedFront p room text counted → IsCounted p text counted
+    → old.counter + counted.counts.lead ≤ max_run → place_of old ≡ None → new.is_over ≡ old.is_over → new.reached.chars ≡ old.reached.chars + length (chars counted.front.now)
+    → new.reached.bytes ≡ old.reached.bytes + length counted.front.now → new.counter ≡ (if counted.counts.has_starter then counted.counts.trail else old.counter + counted.counts.lead) → HasSeen base p new x text counted.rest.now
+goes_on-counted {base} {p} {old} {new} {x} {room} {text} {counted} before is at short on same chars_are bytes count =
     let none = ap is_some on in
-    let y = chars safe.front.now in
+    let y = chars counted.front.now in
+    let has = is.counts in
     let here = is_in_format-join p x y (before.in_format none) (is_in_format-short p y (omega arith)) (omega (arith, before.count none)) in
     record {
       front = y;
       is_front = at.split;
-      sound = at.sound;
+      sound = is.sound;
       stands = stands_on (grind arith) here
           (omega (arith, before.chars none, length-append x y))
           (omega (arith, before.offset none, ap length at.bytes, ap length (encodes-append x y), length-append (encode_utf8_all x) (encode_utf8_all y)))
-          (count ∙ trail-after p (decomposed Nfkd p x) (decomposed Nfkd p y) is.has_starter is.lead is.trail (before.count none) ∙ ap (trail p) (sym (decomposed-append p Nfkd x y)));
+          (count ∙ trail-after p (decomposed Nfkd p x) (decomposed Nfkd p y) has.has_starter has.lead has.trail (before.count none) ∙ ap (trail p) (sym (decomposed-append p Nfkd x y)));
     }

@@ -4,7 +4,7 @@ use Rattle.std.specs.List.{list_all}
 use Rattle.nf_forms.specs.Laws.Segments.{sound-append}
 use Rattle.nf_counts.specs.Counts.{IsCountedFront}
 use Rattle.nf_counts.specs.declared.counted.Counted.{Counted}
-use Rattle.nf_safe.proofs.CountedLemmas.{IsFront}
+use Rattle.nf_safe.proofs.CountedLemmas.{IsCounted}
 use Rattle.nf_safe.proofs.RunsLemmas.{trail-after}
 use Rattle.nf_safe.specs.declared.measure.Measure.{Measure}
 use Rattle.nf_safe.specs.declared.measurer.Measurer.{Measurer}
@@ -58,7 +58,7 @@ module _ {p : Properties} {old : Measurer} {x : List ℕ} (before : StandsAfter 
       }
 
 -- after a front of which the non-starters are counted
-pub goes_on-counted : {p : Properties} {old new : Measurer} {x : List ℕ} {room : ℕ} {text : List ℕ} {counted : Counted} → StandsAfter p old x → IsCountedFront p room text counted → IsFront p text counted.front.now counted.rest.now
+pub goes_on-counted : {p : Properties} {old new : Measurer} {x : List ℕ} {room : ℕ} {text : List ℕ} {counted : Counted} → StandsAfter p old x → IsCountedFront p room text counted → IsCounted p text counted
     → old.counter + counted.counts.lead ≤ max_run → new.counter ≡ (if counted.counts.has_starter then counted.counts.trail else old.counter + counted.counts.lead)
     → HasRuns p new.runs (decomposed Nfkd p x ++ decomposed Nfkd p (chars counted.front.now)) → new.bytes ≡ old.bytes + length counted.front.now → new.chars ≡ old.chars + length (chars counted.front.now)
     → new.put ≡ old.put → new.unassigned ≡ old.unassigned + counted.counts.unassigned → HasSeen p new x text counted.rest.now
@@ -78,7 +78,7 @@ goes_on-counted {p} {old} {new} {x} {room} {text} {counted} before is at short c
       front = y;
       is_front = at.split;
       stands = record {
-        sound = ap (list_all (is_sound p)) safe ∙ sound-append p Nfkd out y before.sound at.sound;
+        sound = ap (list_all (is_sound p)) safe ∙ sound-append p Nfkd out y before.sound is.sound;
         values = values_with before new y runs_are (omega (arith, ap length at.bytes)) chars_are (omega (arith, ap length safe, length-append out y)) (unassigned ∙ ap (λ n. old.unassigned + n) is.unassigned);
         count = count ∙ trail-after p (decomposed Nfkd p out) (decomposed Nfkd p y) has.has_starter has.lead has.trail before.count
             ∙ sym (ap (λ o. trail p (decomposed Nfkd p o)) safe ∙ ap (trail p) (decomposed-append p Nfkd out y));

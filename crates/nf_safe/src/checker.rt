@@ -2,7 +2,7 @@ ghost use Rattle.std.specs.Prelude.{◌≤◌};
 
 use crate::counter::Counter;
 use crate::place::Place;
-use nf_counts::safe_front;
+use nf_counts::counted_front;
 use nf_row::{RowRoom, Rows, Rule, Unsound, sound_row};
 use nf_utf8::char_count;
 
@@ -81,8 +81,8 @@ impl Checker {
         Ok(None)
     }
 
-    /// Sees a front of the text of which bytes, or one look-up for each character, tell that the text does not leave the format
-    /// there; of other data than Unicode's they tell nothing. Answers what follows.
+    /// Sees the front of the text of which the non-starters are known by one look-up for each character (`counted_front`), for
+    /// Unicode's data: the text does not leave the format there. Answers what follows.
     #[inline]
     pub fn see_counted<'t, R: Rows>(&mut self, rows: &R, text: &'t str) -> &'t str
         requires none { place_of self.old ≡ None }
@@ -96,13 +96,13 @@ impl Checker {
         if !rows.is_ucd() {
             return text;
         }
-        let safe = safe_front(self.counter.room(), text);
-        self.counter.pass(safe.lead, safe.trail, safe.has_starter);
+        let counted = counted_front(self.counter.room(), text);
+        self.counter.pass(&counted.counts);
         self.reached = Place {
-            chars: self.reached.chars + char_count(safe.front) as u64,
-            bytes: self.reached.bytes + safe.front.len() as u64,
+            chars: self.reached.chars + char_count(counted.front) as u64,
+            bytes: self.reached.bytes + counted.front.len() as u64,
         };
-        safe.rest
+        counted.rest
     }
 
     /// Where the text has left the format; none while it is in it, and so while the Stream-Safe Text Process leaves it as

@@ -5,6 +5,7 @@ ghost use Rattle.nf_forms.specs.StreamSafe.{max_run};
 ghost use Rattle.nf_safe.specs.Count.{passes, count_step};
 ghost use Rattle.nf_safe.specs.Counter.{StandsAfter};
 
+use nf_counts::Counts;
 use nf_forms::MAX_RUN;
 use nf_row::{NonStarters, Row, Rows};
 use std::marker::Model;
@@ -89,17 +90,16 @@ impl Counter {
         u32::from(MAX_RUN - self.count)
     }
 
-    /// Goes on over text that begins with `lead` non-starters and ends in `trail`, where no U+034F is put.
+    /// Goes on over text of which these are the counts, where no U+034F is put.
     #[inline]
-    pub(crate) fn pass(&mut self, lead: u32, trail: u32, has_starter: bool)
-        requires lead { self.old + lead ≤ max_run }
-        requires trail { trail ≤ max_run }
-        ensures { self.new ≡ (if has_starter then trail else self.old + lead) }
+    pub(crate) fn pass(&mut self, counts: &Counts)
+        requires { self.old + counts.now.lead ≤ max_run }
+        ensures { self.new ≡ (if counts.now.has_starter then counts.now.trail else self.old + counts.now.lead) }
     {
-        self.count = if has_starter {
-            trail as u8
+        self.count = if counts.has_starter {
+            counts.trail as u8
         } else {
-            self.count + lead as u8
+            self.count + counts.lead as u8
         };
     }
 

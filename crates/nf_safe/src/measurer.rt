@@ -92,11 +92,7 @@ impl Measurer {
         }
         let counted = counted_front(self.counter.room(), text);
         self.runs.push_counts(&counted.counts);
-        self.counter.pass(
-            counted.counts.lead,
-            counted.counts.trail,
-            counted.counts.has_starter,
-        );
+        self.counter.pass(&counted.counts);
         self.bytes += counted.front.len() as u64;
         self.chars += char_count(counted.front) as u64;
         self.unassigned += counted.counts.unassigned;

@@ -95,7 +95,7 @@ fn a_front_is_checked_by_look_ups(rt: HostRuntime) {
     let cases: [(u32, &str, &str, Result<Option<Place>, Unsound>); 10] = [
         (0, "", "", Ok(None)),
         (30, LETTERS, "", Ok(None)),
-        (28, MARKED, "\u{301}", Ok(None)),
+        (28, MARKED, "", Ok(None)),
         (29, MARKED, &MARKED[2..], place(30, 160)),
         (30, "ab\u{4E2D}\u{301}", "", Ok(None)),
         (29, "\u{301}", "", place(30, 160)),

@@ -9,8 +9,12 @@ pub returns-then-value-lt4-clause-counts : goal.returns-then-value-lt4-clause-co
 returns-then-value-lt4-clause-counts c = λ _ p w row value before.
     grind (arith, nat_tests, lead-marks p w, has_starter-append p w row, lead-append p w row, trail-append p w row, longest-append p w row, sum_by-append (λ d. cond (is_nonstarter p d) 1 0) w row)
 
-pub returns-then-value-ge8-clause-counts : goal.returns-then-value-ge8-clause-counts
-returns-then-value-ge8-clause-counts c = λ _ p w row value before.
+pub returns-then-value-eq-UNASSIGNED-clause-counts : goal.returns-then-value-eq-UNASSIGNED-clause-counts
+returns-then-value-eq-UNASSIGNED-clause-counts c = λ _ p w row value before.
+    grind (arith, nat_tests, lead-marks p w, has_starter-append p w row, lead-append p w row, trail-append p w row, longest-append p w row, sum_by-append (λ d. cond (is_nonstarter p d) 1 0) w row)
+
+pub returns-then-value-gt-UNASSIGNED-clause-counts : goal.returns-then-value-gt-UNASSIGNED-clause-counts
+returns-then-value-gt-UNASSIGNED-clause-counts c = λ _ p w row value before.
     grind (arith, nat_tests, lead-marks p w, has_starter-append p w row, lead-append p w row, trail-append p w row, longest-append p w row, sum_by-append (λ d. cond (is_nonstarter p d) 1 0) w row)
 
 pub returns-clause-counts : goal.returns-clause-counts
