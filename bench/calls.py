@@ -49,31 +49,43 @@ def row(text: Text, program: str, starts: dict[str, int], form: str) -> str:
     return f"| {' | '.join([text.name, text.state, *cells])} |"
 
 
-# Short runs, many of each, in turns: where others use the machine the best of a few long ones is chance.
-OFTEN = Effort(size=4 << 20, runs=15, least=0.04, most=20)
+# Short runs, a few of each call in turns, and so of each text in each round: where others use the machine, some seconds or some
+# minutes, the best of runs that stand together is chance.
+OFTEN = Effort(size=4 << 20, runs=3, least=0.04, most=20)
+ROUNDS = 15
 
 # What each call is measured by: the call and its words, and what it should have at least of the speed of another.
 GOALS = [("with --assigned", "convert nfc", 0.8), ("check", "convert nfd", 1.0), ("measure", "convert nfkd", 0.5), ("measure", "check", 0.6)]
 
 
-def speed_row(text: Text, program: str) -> str:
-    """The megabytes by second of each call, and what each that has a goal makes of the other: with a star where that is less."""
+def call_speeds(text: Text, program: str) -> dict[str, float]:
+    """The megabytes by second of each call."""
     commands = {title: [program, *words] for title, words in calls("nfc").items() if title != "check --form nfc"}
     commands |= {f"convert {form}": [program, "convert", "--form", form] for form in ("nfd", "nfkd")}
     with tempfile.TemporaryDirectory() as folder:
-        found = speeds(commands, Input(Path(folder), text.content.encode()), OFTEN)
+        return speeds(commands, Input(Path(folder), text.content.encode()), OFTEN)
+
+
+def speed_row(text: Text, found: dict[str, float]) -> str:
+    """The speed of each call, and what each that has a goal makes of the other: with a star where that is less."""
     ratios = [(found[mine] / found[other], least) for mine, other, least in GOALS]
     cells = [f"{speed:.0f}" for speed in found.values()] + [f"{ratio:.2f}{'' if ratio >= least else ' *'}" for ratio, least in ratios]
     return f"| {' | '.join([text.name, text.state, *cells])} |"
 
 
 def print_speeds(corpora: Path, words: list[str], program: str) -> None:
-    titles = ["convert nfc", "with --assigned", "check", "measure", "convert nfd", "convert nfkd"]
-    titles += [f"{mine} / {other}, {least}" for mine, other, least in GOALS]
+    """The best of all rounds."""
+    measured = list(texts(corpora, [word for word in words if word in REAL or word in MARKED], OFTEN.size))
+    best = [call_speeds(text, program) for text in measured]
+    for _ in range(ROUNDS - 1):
+        for kept, text in zip(best, measured):
+            for title, speed in call_speeds(text, program).items():
+                kept[title] = max(kept[title], speed)
+    titles = [*best[0], *(f"{mine} / {other}, {least}" for mine, other, least in GOALS)]
     print(f"| {' | '.join(['Text', 'Input', *titles])} |")
     print("|---|---|" + "---:|" * len(titles))
-    for text in texts(corpora, [word for word in words if word in REAL or word in MARKED], OFTEN.size):
-        print(speed_row(text, program), flush=True)
+    for text, found in zip(measured, best):
+        print(speed_row(text, found))
 
 
 def main() -> None:
