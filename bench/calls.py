@@ -14,7 +14,9 @@ from argparse import ArgumentParser
 from concurrent.futures import ThreadPoolExecutor
 from os import cpu_count
 from pathlib import Path
+from statistics import median
 from subprocess import DEVNULL, PIPE, run
+from typing import Sequence
 
 from measure import Effort, Input, speeds
 from texts import MARKED, REAL, WORDS, Text, missing, texts
@@ -50,7 +52,8 @@ def row(text: Text, program: str, starts: dict[str, int], form: str) -> str:
 
 
 # Short runs, a few of each call in turns, and so of each text in each round: where others use the machine, some seconds or some
-# minutes, the best of runs that stand together is chance.
+# minutes, the best of runs that stand together is chance, and so is what the best of two calls make of each other, each of them at
+# another time. What they make in one round is not, in most.
 OFTEN = Effort(size=4 << 20, runs=3, least=0.04, most=20)
 ROUNDS = 15
 
@@ -66,25 +69,22 @@ def call_speeds(text: Text, program: str) -> dict[str, float]:
         return speeds(commands, Input(Path(folder), text.content.encode()), OFTEN)
 
 
-def speed_row(text: Text, found: dict[str, float]) -> str:
-    """The speed of each call, and what each that has a goal makes of the other: with a star where that is less."""
-    ratios = [(found[mine] / found[other], least) for mine, other, least in GOALS]
-    cells = [f"{speed:.0f}" for speed in found.values()] + [f"{ratio:.2f}{'' if ratio >= least else ' *'}" for ratio, least in ratios]
+def speed_row(text: Text, found: Sequence[dict[str, float]]) -> str:
+    """The best speed of each call, and what each that has a goal makes of the other in most rounds: with a star where that is less."""
+    best = [max(one[title] for one in found) for title in found[0]]
+    ratios = [(median(one[mine] / one[other] for one in found), least) for mine, other, least in GOALS]
+    cells = [f"{speed:.0f}" for speed in best] + [f"{ratio:.2f}{'' if ratio >= least else ' *'}" for ratio, least in ratios]
     return f"| {' | '.join([text.name, text.state, *cells])} |"
 
 
 def print_speeds(corpora: Path, words: list[str], program: str) -> None:
-    """The best of all rounds."""
+    """The best of all rounds, and the medians of what two calls make in each."""
     measured = list(texts(corpora, [word for word in words if word in REAL or word in MARKED], OFTEN.size))
-    best = [call_speeds(text, program) for text in measured]
-    for _ in range(ROUNDS - 1):
-        for kept, text in zip(best, measured):
-            for title, speed in call_speeds(text, program).items():
-                kept[title] = max(kept[title], speed)
-    titles = [*best[0], *(f"{mine} / {other}, {least}" for mine, other, least in GOALS)]
+    rounds = [[call_speeds(text, program) for text in measured] for _ in range(ROUNDS)]
+    titles = [*rounds[0][0], *(f"{mine} / {other}, {least}" for mine, other, least in GOALS)]
     print(f"| {' | '.join(['Text', 'Input', *titles])} |")
     print("|---|---|" + "---:|" * len(titles))
-    for text, found in zip(measured, best):
+    for text, *found in zip(measured, *rounds):
         print(speed_row(text, found))
 
 

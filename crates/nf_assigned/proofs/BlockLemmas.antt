@@ -14,5 +14,5 @@ told_after bytes at told n more k inside high =
 
 -- where one of the two families tells
 pub by_either : (bytes : List ℕ) (k : ℕ) → NoneFound (finds First) bytes k ⊎ NoneFound (finds Second) bytes k → IsTold bytes k
-by_either bytes k (inl told) = (First, told)
-by_either bytes k (inr told) = (Second, told)
+by_either bytes k (inl told) = inl (First, told)
+by_either bytes k (inr told) = inl (Second, told)

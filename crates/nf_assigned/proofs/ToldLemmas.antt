@@ -3,10 +3,11 @@ use Rattle.std.proofs.Common.{◌≡◌, ℕ, ◌+◌, ◌*◌, ◌≤◌, Bool,
 use Rattle.nf_forms.specs.Ucd.{is_assigned}
 use Rattle.nf_facts.specs.Within.{lies_within, in_ranges-lies_within}
 use Rattle.ucd_table.proofs.TrieCheck.{all_below}
-use Rattle.nf_lanes.proofs.LooksLemmas.{Known, Tells}
+use Rattle.nf_lanes.proofs.LooksLemmas.{Known, Tells, TellsOf, ScriptsTell, by_pairs, by_scripts, any_of, either}
 use Rattle.nf_assigned.specs.declared.lanes.By.{By}
 use Rattle.nf_assigned.specs.declared.lanes.By.TheVariants.{Leads, First, Second}
-use Rattle.nf_assigned.specs.Bytes.{finds}
+use Rattle.nf_assigned.specs.declared.scripts.TheConstants.{SCRIPTS}
+use Rattle.nf_assigned.specs.Bytes.{finds, IsTold}
 use Rattle.nf_assigned.proofs.RangeLemmas.{told_ranges, told-assigned}
 
 abbrev within : ℕ → ℕ → Bool
@@ -35,8 +36,15 @@ known = record {
 }
 
 -- so of a character that one of them does not find
-pub tells : (by : By) → Tells _ _ _ known (finds by)
+by_families : (by : By) → Tells _ _ _ known (finds by)
 unfolding told_ranges all_below known
-tells Leads = record { of_two = refl; of_three = refl; of_four = refl }
-tells First = record { of_two = refl; of_three = refl; of_four = refl }
-tells Second = record { of_two = refl; of_three = refl; of_four = refl }
+by_families Leads = record { of_two = refl; of_three = refl; of_four = refl }
+by_families First = record { of_two = refl; of_three = refl; of_four = refl }
+by_families Second = record { of_two = refl; of_three = refl; of_four = refl }
+
+of_scripts : ScriptsTell _ _ _ known SCRIPTS
+unfolding told_ranges all_below known
+of_scripts = record { narrow = record { of_two = refl; of_three = refl; of_four = refl }; indic = refl; southern = refl; thai = refl; letters = refl; kana = refl }
+
+pub tells : TellsOf 0x340 (λ c. is_assigned c ≡ true) IsTold
+tells = either _ _ _ _ (any_of _ _ By _ (λ by. by_pairs _ _ _ known (finds by) (by_families by))) (by_scripts _ _ _ known SCRIPTS of_scripts)

@@ -7,7 +7,8 @@ ghost use Rattle.nf_assigned.specs.Bytes.{finds, AreTold, IsTold};
 
 use crate::leads::{HIGH, LOW};
 use crate::pairs::{FIRST, SECOND};
-use nf_lanes::{byte_sets, found_by_both, none_found, none_of};
+use crate::scripts::SCRIPTS;
+use nf_lanes::{byte_sets, found_by_both, found_in_script, none_found, none_of};
 use nf_utf8::ascii_prefix;
 
 /// After so many windows of 63 bytes at most lead bytes are asked again.
@@ -21,13 +22,13 @@ pub(crate) enum By {
     Second,
 }
 
-/// How many bytes there are before a character that has to be looked up. The last 64 are left out, but for ASCII at the front.
+/// How many bytes there are before a character that has to be looked up. The last 65 are left out, but for ASCII at the front.
 #[inline(always)]
 pub(crate) fn assigned_len(bytes: &[u8]) -> usize
     ensures within { result ≤ length bytes.now }
     ensures told { AreTold bytes.now result }
 {
-    let end = bytes.len().saturating_sub(64);
+    let end = bytes.len().saturating_sub(65);
     let mut at = ascii_prefix(bytes);
     // So many windows are asked by a family: the more, the more often lead bytes told nothing.
     let mut windows = MAX_WINDOWS;
@@ -42,7 +43,7 @@ pub(crate) fn assigned_len(bytes: &[u8]) -> usize
         if at >= until {
             continue;
         }
-        let found = found_by_neither(bytes, at);
+        let found = found_by_none(bytes, at);
         if found != 0 {
             return at + found.trailing_zeros() as usize;
         }
@@ -87,13 +88,14 @@ fn is_told(by: By, bytes: &[u8], at: usize) -> bool
     }
 }
 
-/// A bit for each of 63 bytes, the lowest for the first, of which neither family tells. It stands apart, so that the loop keeps
-/// its tables in registers.
+/// A bit for each of 63 bytes, the lowest for the first, of which neither family tells, nor that of the script of the first of these.
+/// It stands apart, so that the loop keeps its tables in registers.
 #[inline(never)]
-fn found_by_neither(bytes: &[u8], at: usize) -> u64
-    requires room { at + 64 < length bytes.now }
+fn found_by_none(bytes: &[u8], at: usize) -> u64
+    requires room { at + 65 < length bytes.now }
     ensures high { (k : ℕ) → k < 64 → bit_at result k ≡ 1 → (k < 63) × (0xCD ≤ slice_index bytes.now (at + k)) }
     ensures told { (k : ℕ) → k < 63 → bit_at result k ≡ 0 → 0xCD ≤ slice_index bytes.now (at + k) → IsTold bytes.now (at + k) }
 {
-    found_by_both(&FIRST, &SECOND, 0xCD, bytes, at)
+    let found = found_by_both(&FIRST, &SECOND, 0xCD, bytes, at);
+    found_in_script(found, &SCRIPTS, bytes, at)
 }

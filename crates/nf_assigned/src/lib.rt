@@ -6,5 +6,6 @@ mod front;
 mod lanes;
 mod leads;
 mod pairs;
+mod scripts;
 
 pub use front::assigned_front;

@@ -1,5 +1,5 @@
 -- What pairs of bytes tell of a character is what the table has, shown by one computation; and what they tell of a text.
-use Rattle.std.proofs.Common.{◌≡◌, ℕ, ◌+◌, ◌-◌, ◌%◌, ◌<◌, ◌≤◌, ◌==◌, nat_lt, not, ⊎_elim, Bool, true, false, cond, List, [], ◌∷◌, ◌++◌, length, slice_index, take, drop, refl, sym, ◌∙◌, arith, add_assoc, append-nil, append_assoc, length-append, eqb-true, length-drop, length-take-le, take-append-drop}
+use Rattle.std.proofs.Common.{◌≡◌, ℕ, ◌+◌, ◌-◌, ◌%◌, ◌<◌, ◌≤◌, ◌==◌, nat_lt, not, ⊎_elim, true, cond, List, [], ◌∷◌, ◌++◌, length, slice_index, take, drop, refl, sym, ◌∙◌, arith, add_assoc, append-nil, append_assoc, length-append, eqb-true, length-drop, length-take-le, take-append-drop}
 use Rattle.std.specs.Prelude.{All, chars, encode_utf8_all}
 use Rattle.std.specs.Str.{IsUtf8, IsCharBoundary}
 use Rattle.std.proofs.lemmas.Bool.Decides.{nat_tests}
@@ -19,13 +19,14 @@ use Rattle.nf_forms.specs.Properties.{Properties, is_nonstarter}
 use Rattle.nf_forms.specs.Sound.{is_sound}
 use Rattle.nf_forms.specs.declared.form.Form.TheVariants.{Nfkd}
 use Rattle.nf_forms.specs.Ucd.{ucd}
-use Rattle.nf_lanes.specs.Looks.{finds, is_in}
-use Rattle.nf_lanes.proofs.LooksLemmas.{Known, Tells, told_front}
+use Rattle.nf_lanes.specs.Looks.{finds}
+use Rattle.nf_lanes.proofs.LooksLemmas.{Known, Tells, TellsOf, ScriptsTell, by_pairs, by_scripts, either, told_front}
 use Rattle.nf_counts.specs.Counts.{HasValue, IsValued, unassigned_in}
 use Rattle.nf_counts.specs.Piece.{IsPiece}
 use Rattle.nf_counts.specs.declared.piece.Piece.{Piece}
-use Rattle.nf_counts.specs.Window.{AreTold}
-use Rattle.nf_counts.specs.declared.pairs.TheConstants.{GREEK, KANA, LOOKS}
+use Rattle.nf_counts.specs.Window.{AreTold, IsTold}
+use Rattle.nf_counts.specs.declared.pairs.TheConstants.{LOOKS}
+use Rattle.nf_counts.specs.declared.scripts.TheConstants.{SCRIPTS}
 use Rattle.nf_counts.specs.declared.rows.TheConstants.{INDEX, WORDS}
 use Rattle.nf_counts.proofs.Told.{told, told-ascii, told-valued, told-block}
 
@@ -72,12 +73,17 @@ module _ (sound : (c : ℕ) → is_sound ucd c ≡ true) where
     is_low = omega arith;
   }
 
-  -- so is a character that the two families do not find, or the one of kana, or the one of Greek
-  tells : (b : Bool × Bool) → Tells _ _ _ known (cond b.0 (finds LOOKS) (cond b.1 (is_in KANA) (is_in GREEK)))
+  -- so is a character that the two families do not find, or one of a script
+  of_pairs : Tells _ _ _ known (finds LOOKS)
   unfolding all_below block_value known
-  tells (true, b) = record { of_two = refl; of_three = refl; of_four = refl }
-  tells (false, true) = record { of_two = refl; of_three = refl; of_four = refl }
-  tells (false, false) = record { of_two = refl; of_three = refl; of_four = refl }
+  of_pairs = record { of_two = refl; of_three = refl; of_four = refl }
+
+  of_scripts : ScriptsTell _ _ _ known SCRIPTS
+  unfolding all_below block_value known
+  of_scripts = record { narrow = record { of_two = refl; of_three = refl; of_four = refl }; indic = refl; southern = refl; thai = refl; letters = refl; kana = refl }
+
+  tells : TellsOf 0x80 (λ c. IsValued ucd c 0) IsTold
+  tells = either _ _ _ _ (by_pairs _ _ _ known (finds LOOKS) of_pairs) (by_scripts _ _ _ known SCRIPTS of_scripts)
 
   -- characters of which none is looked up are a piece of the value 0
   pub plain_piece : (text : List ℕ) (len : ℕ) → IsUtf8 text → IsCharBoundary text len → 0 < len → AreTold text 0 len → IsPiece ucd text record { len = len; value = 0 }
@@ -85,8 +91,7 @@ module _ (sound : (c : ℕ) → is_sound ucd c ≡ true) where
       let cs = chars (take len text) in
       let same : encode_utf8_all cs ≡ take len text = encodes-chars _ (IsUtf8-take text len u boundary) in
       let long : length (encode_utf8_all cs) ≡ len = rw same (length-take-le len text boundary.0) in
-      let plain = told_front _ _ _ _ (Bool × Bool) _ tells text len len u boundary (omega arith)
-      (λ k inside high. ⊎_elim (λ both. ((true, true), both)) (λ other. ⊎_elim (λ kana. ((false, true), kana)) (λ greek. ((false, false), greek)) other) (none k (omega arith) inside high)) in
+      let plain = told_front _ _ _ known IsTold tells text len len u boundary (omega arith) (λ k inside. none k (omega arith) inside) in
       record {
         chars = cs;
         begins = record { rest = drop len text; split = rw (same, take-append-drop); rest_utf8 = IsUtf8-drop text len u boundary; is_long = sym long };

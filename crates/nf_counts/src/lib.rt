@@ -8,6 +8,7 @@ mod pairs;
 mod piece;
 mod rows;
 mod scan;
+mod scripts;
 mod table;
 mod window;
 

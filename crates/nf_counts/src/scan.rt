@@ -78,7 +78,7 @@ impl<'t> Scan<'t> {
     {
         let text = self.text;
         let mut base = self.at;
-        while text.len().saturating_sub(base) > 64 {
+        while text.len().saturating_sub(base) > 65 {
             if !self.pass_window(base, room) {
                 return false;
             }
@@ -93,7 +93,7 @@ impl<'t> Scan<'t> {
     fn pass_window(&mut self, base: usize, room: u32) -> bool
         requires reaches { Reaches ucd room self.old }
         requires asked { AreAsked self.old.text.now self.old.at base }
-        requires fits { base + 64 < length self.old.text.now }
+        requires fits { base + 65 < length self.old.text.now }
         ensures text { self.new.text.now ≡ self.old.text.now }
         ensures asked { IsTrue result → AreAsked self.new.text.now self.new.at (base + 63) }
         ensures reaches { Reaches ucd room self.new }

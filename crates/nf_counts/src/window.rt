@@ -1,6 +1,7 @@
 //! 63 bytes of a text at once: where characters begin that have to be looked up.
 
-use crate::pairs::{GREEK, KANA, LOOKS};
+use crate::pairs::LOOKS;
+use crate::scripts::SCRIPTS;
 use nf_lanes::found_leads;
 
 /// Places of a text that are still to be looked up.
@@ -18,13 +19,13 @@ impl Window {
     /// Those from a place on.
     #[inline(always)]
     pub fn new(text: &str, base: usize) -> Window
-        requires fits { base + 64 < length text.now }
+        requires fits { base + 65 < length text.now }
         ensures base { result.base ≡ base }
         ensures left { (at : ℕ) → AreAsked text.now at base → AreLeft text.now at result }
     {
         Window {
             base,
-            found: found_leads(&LOOKS, &KANA, &GREEK, text.as_bytes(), base),
+            found: found_leads(&LOOKS, &SCRIPTS, text.as_bytes(), base),
         }
     }
 

@@ -108,6 +108,36 @@ fn characters_are_counted_among_letters(rt: HostRuntime) -> Result<(), Fail> {
     Ok(())
 }
 
+/// Each of three bytes after the first ones among letters of a script, where the bytes after a lead byte are asked: of India, Thai,
+/// Georgian and kana.
+#[test]
+fn characters_are_counted_in_rows(rt: HostRuntime) -> Result<(), Fail> {
+    for letter in ['\u{B95}', '\u{E01}', '\u{10D0}', '\u{30AB}'] {
+        for code in 0x800..0x4000u32 {
+            let Some(c) = char::from_u32(code) else {
+                continue;
+            };
+            let place = 6 + (code % 24) as usize;
+            let mut chars = [letter; 60];
+            chars[place] = c;
+            let mut bytes = [0; 180];
+            for at in 0..60usize {
+                let mut room = [0; 4];
+                let three = chars[at].encode_utf8(&mut room).as_bytes();
+                for k in 0..three.len().min(3) {
+                    bytes[3 * at + k] = three[k];
+                }
+            }
+            let text = str::from_utf8(&bytes).expect(&rt, "text");
+            let counted = counted_front(30, text);
+            let (count, counts) = counted_plainly(30, &chars);
+            assert_eq!(rt; counted.front.chars().count(), count, "{letter} {code:x}");
+            assert_eq!(rt; counts_of(&counted), counts, "{letter} {code:x}");
+        }
+    }
+    Ok(())
+}
+
 const SOME: [char; 32] = [
     'a',
     ' ',

@@ -1,3 +1,4 @@
 pub mod Lanes
 pub mod Looks
+pub mod Scripts
 pub mod Sets

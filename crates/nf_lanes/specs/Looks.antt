@@ -19,3 +19,7 @@ at_pair test bytes k = test (slice_index bytes k) (slice_index bytes (k + 1))
 -- neither of the two pairs from k on is found
 abbrev pub NoneFound : (ℕ → ℕ → Bool) → List ℕ → ℕ → Type 0
 NoneFound test bytes k = (at_pair test bytes k ≡ false) × (at_pair test bytes (k + 1) ≡ false)
+
+-- the byte at k is this lead byte, and the two after it are not found
+abbrev pub NoneAfter : (ℕ → ℕ → Bool) → ℕ → List ℕ → ℕ → Type 0
+NoneAfter test lead bytes k = (slice_index bytes k ≡ lead) × (at_pair test bytes (k + 1) ≡ false)

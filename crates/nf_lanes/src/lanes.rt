@@ -12,7 +12,8 @@ pub const LANES: usize = 16;
 /// A bit for each lane that is not 0.
 #[inline(always)]
 pub fn bits(lanes: u8x16) -> u64
-    ensures { (h : ℕ → ℕ) (at : ℕ) → lanes ≡ map h (places at) → result ≡ bits_at (λ k. not (h k == 0)) at }
+    ensures few { result < 65536 }
+    ensures each { (h : ℕ → ℕ) (at : ℕ) → lanes ≡ map h (places at) → result ≡ bits_at (λ k. not (h k == 0)) at }
 {
     lanes.simd_ne(u8x16::splat(0)).to_bitmask()
 }
@@ -35,6 +36,16 @@ pub(crate) fn at_least(least: u8, bytes: &[u8], at: usize) -> u64
     lanes.simd_ge(u8x16::splat(least)).to_bitmask()
 }
 
+/// A bit for each byte from `at` on that is this one.
+#[inline(always)]
+pub(crate) fn at_equal(byte: u8, bytes: &[u8], at: usize) -> u64
+    requires room { at + 16 ≤ length bytes.now }
+    ensures { result ≡ bits_at (λ k. slice_index bytes.now k == byte) at }
+{
+    let lanes = u8x16::from_slice(&bytes[at..]);
+    lanes.simd_eq(u8x16::splat(byte)).to_bitmask()
+}
+
 /// Whether all lanes are 0 of four times 16 places, one after the other.
 #[inline(always)]
 pub fn none_of(first: u8x16, second: u8x16, third: u8x16, last: u8x16) -> bool
@@ -42,6 +53,15 @@ pub fn none_of(first: u8x16, second: u8x16, third: u8x16, last: u8x16) -> bool
         → (IsTrue result ↔ NonePass (λ k. not (h k == 0)) at 64) }
 {
     bits(first | second | third | last) == 0
+}
+
+/// A bit for each lane that is not 0 of four times 16 places, one after the other, the lowest for the first.
+#[inline(always)]
+pub(crate) fn bits_of_64(first: u8x16, second: u8x16, third: u8x16, last: u8x16) -> u64
+    ensures { (h : ℕ → ℕ) (at : ℕ) → first ≡ map h (places at) → second ≡ map h (places (at + 16)) → third ≡ map h (places (at + 32)) → last ≡ map h (places (at + 48))
+        → (k : ℕ) → k < 64 → bit_at result k ≡ (if not (h (at + k) == 0) then 1 else 0) }
+{
+    of_64(bits(first), bits(second), bits(third), bits(last))
 }
 
 /// The bits of four times 16 places, one after the other, as those of 64.

@@ -4,8 +4,10 @@
 
 mod lanes;
 mod looks;
+mod scripts;
 mod sets;
 
 pub use lanes::{LANES, bits, bits_of_either, none_of};
 pub use looks::{Looks, found_by_both, found_leads, none_found};
+pub use scripts::{Scripts, found_in_script};
 pub use sets::{Pairs, Triples, byte_sets, pair_sets, triple_sets};

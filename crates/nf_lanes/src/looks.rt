@@ -1,11 +1,12 @@
 //! Pairs of bytes at which a text is looked up, many at once.
 
-ghost use Rattle.std.specs.Prelude.{◌≡◌, ◌<◌, ◌≤◌, ◌+◌, ◌⊎◌, ℕ, IsTrue, IfSome, length, slice_index, if◌then◌else◌};
+ghost use Rattle.std.specs.Prelude.{◌≡◌, ◌<◌, ◌≤◌, ◌+◌, ◌⊎◌, ◌↔◌, ◌/◌, ◌^◌, ◌*◌, bit_and, ℕ, IsTrue, length, slice_index, if◌then◌else◌};
 ghost use Rattle.std.specs.Int.{bit_at};
-ghost use Rattle.nf_lanes.specs.Lanes.{bits_at};
-ghost use Rattle.nf_lanes.specs.Looks.{is_in, finds, at_pair, NoneFound};
+ghost use Rattle.nf_lanes.specs.Scripts.{IsToldInScript};
+ghost use Rattle.nf_lanes.specs.Looks.{is_in, finds, at_pair, NoneFound, NoneAfter};
 
-use crate::lanes::{at_least, bits, none_of, of_64};
+use crate::lanes::{at_equal, at_least, bits_of_64, none_of, of_64};
+use crate::scripts::{Scripts, found_in_script};
 use crate::sets::{Pairs, pair_sets};
 
 /// Of so few characters no pair is asked: in Latin most of those that are not ASCII have to be looked up.
@@ -43,22 +44,20 @@ pub fn found_by_both(first: &Pairs, second: &Pairs, least: u8, bytes: &[u8], at:
     ensures told { (k : ℕ) → k < 63 → bit_at result k ≡ 0 → least ≤ slice_index bytes.now (at + k)
         → NoneFound (is_in first.now) bytes.now (at + k) ⊎ NoneFound (is_in second.now) bytes.now (at + k) }
 {
-    let pairs = family_bits(first, bytes, at);
-    let found = high_bits(least, bytes, at) & (pairs | (pairs >> 1));
-    let others = family_bits(second, bytes, at);
-    found & (others | (others >> 1))
+    let found = found_by_pairs(high_bits(least, bytes, at), first, bytes, at);
+    found_by_pairs(found, second, bytes, at)
 }
 
 /// A bit for each of 63 bytes from `at` on, the lowest for the first: of those that begin more bytes than one, each at which a
 /// pair has to be looked up, or at the byte after it, is set; of a few all are, and all that the first family finds where those are
-/// few; and where three of three bytes stand in a row, as kana do in Japanese, only those of which a pair is in `wide`, too, and
-/// where three of two bytes do, in `narrow`.
+/// few; and where three of three bytes stand in a row, as in Thai and in kana, or three of two bytes, as in Greek, only those that
+/// the families of scripts find, too.
 #[inline(always)]
-pub fn found_leads(looks: &Looks, wide: &Pairs, narrow: &Pairs, bytes: &[u8], at: usize) -> u64
-    requires room { at + 64 < length bytes.now }
+pub fn found_leads(looks: &Looks, scripts: &Scripts, bytes: &[u8], at: usize) -> u64
+    requires room { at + 65 < length bytes.now }
     ensures leads { (k : ℕ) → k < 64 → bit_at result k ≡ 1 → (k < 63) × (0xC0 ≤ slice_index bytes.now (at + k)) }
     ensures told { (k : ℕ) → k < 63 → bit_at result k ≡ 0 → 0xC0 ≤ slice_index bytes.now (at + k)
-        → NoneFound (finds looks.now) bytes.now (at + k) ⊎ NoneFound (is_in wide.now) bytes.now (at + k) ⊎ NoneFound (is_in narrow.now) bytes.now (at + k) }
+        → NoneFound (finds looks.now) bytes.now (at + k) ⊎ IsToldInScript scripts.now bytes.now (at + k) }
 {
     let leads = high_bits(0xC0, bytes, at);
     if leads.count_ones() < MIN_LEADS {
@@ -71,25 +70,47 @@ pub fn found_leads(looks: &Looks, wide: &Pairs, narrow: &Pairs, bytes: &[u8], at
     }
     let pairs = firsts & family_bits(&looks.second, bytes, at);
     let found = leads & (pairs | (pairs >> 1));
-    let Some(other) = other_of(found, wide, narrow) else {
-        return found;
-    };
-    let others = family_bits(other, bytes, at);
-    found & (others | (others >> 1))
+    if stand_in_row(found, 3) || stand_in_row(found, 2) {
+        return found_in_script(found, scripts, bytes, at);
+    }
+    found
 }
 
-/// The family that is asked besides, by whether three of three bytes stand in a row of those that are found, or three of two.
+/// Whether characters of so many bytes stand in a row, three of those that have a bit.
 #[inline(always)]
-fn other_of<'a>(found: u64, wide: &'a Pairs, narrow: &'a Pairs) -> Option<&'a Pairs>
-    ensures { IfSome result (λ other. (other.now ≡ wide.now) ⊎ (other.now ≡ narrow.now)) }
+fn stand_in_row(found: u64, len: u32) -> bool
+    requires { len < 32 }
+    ensures { IsTrue result ↔ (0 < bit_and (bit_and found (found / 2 ^ len)) (found / 2 ^ (2 * len))) }
 {
-    if found & (found >> 3) & (found >> 6) != 0 {
-        return Some(wide);
-    }
-    if found & (found >> 2) & (found >> 4) != 0 {
-        return Some(narrow);
-    }
-    None
+    found & (found >> len) & (found >> (2 * len)) != 0
+}
+
+/// Of the bits of 63 bytes from `at` on, the lowest for the first, those of which a pair is in the family: the pair that the byte
+/// begins, or the next.
+#[inline(always)]
+pub(crate) fn found_by_pairs(found: u64, family: &Pairs, bytes: &[u8], at: usize) -> u64
+    requires room { at + 64 < length bytes.now }
+    ensures fewer { (k : ℕ) → bit_at result k ≡ 1 → bit_at found k ≡ 1 }
+    ensures told { (k : ℕ) → k < 63 → bit_at found k ≡ 1 → bit_at result k ≡ 0 → NoneFound (is_in family.now) bytes.now (at + k) }
+{
+    let pairs = family_bits(family, bytes, at);
+    found & (pairs | (pairs >> 1))
+}
+
+/// The same of the two bytes after the byte, where that is `lead`; all others are left.
+#[inline(always)]
+pub(crate) fn found_after(found: u64, lead: u8, family: &Pairs, bytes: &[u8], at: usize) -> u64
+    requires room { at + 65 < length bytes.now }
+    ensures fewer { (k : ℕ) → bit_at result k ≡ 1 → bit_at found k ≡ 1 }
+    ensures told { (k : ℕ) → k < 63 → bit_at found k ≡ 1 → bit_at result k ≡ 0 → NoneAfter (is_in family.now) lead bytes.now (at + k) }
+{
+    let leads = of_64(
+        at_equal(lead, bytes, at),
+        at_equal(lead, bytes, at + 16),
+        at_equal(lead, bytes, at + 32),
+        at_equal(lead, bytes, at + 48),
+    );
+    found & (family_bits(family, bytes, at + 1) | !leads)
 }
 
 /// A bit for each of 63 bytes from `at` on, the lowest for the first, that is `least` or above.
@@ -114,19 +135,10 @@ fn family_bits(family: &Pairs, bytes: &[u8], at: usize) -> u64
     requires room { at + 64 < length bytes.now }
     ensures { (k : ℕ) → k < 64 → bit_at result k ≡ (if at_pair (is_in family.now) bytes.now (at + k) then 1 else 0) }
 {
-    of_64(
-        set_bits(family, bytes, at),
-        set_bits(family, bytes, at + 16),
-        set_bits(family, bytes, at + 32),
-        set_bits(family, bytes, at + 48),
+    bits_of_64(
+        pair_sets(family, bytes, at),
+        pair_sets(family, bytes, at + 16),
+        pair_sets(family, bytes, at + 32),
+        pair_sets(family, bytes, at + 48),
     )
-}
-
-/// A bit for each byte from `at` on, the lowest for the first: whether it and the byte after it are in a set of the family.
-#[inline(always)]
-fn set_bits(family: &Pairs, bytes: &[u8], at: usize) -> u64
-    requires room { at + 16 < length bytes.now }
-    ensures { result ≡ bits_at (at_pair (is_in family.now) bytes.now) at }
-{
-    bits(pair_sets(family, bytes, at))
 }

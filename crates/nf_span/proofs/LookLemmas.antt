@@ -13,7 +13,7 @@ use Rattle.nf_lanes.specs.declared.sets.Pairs.{Pairs}
 use Rattle.nf_lanes.specs.declared.sets.Triples.{Triples}
 use Rattle.nf_lanes.proofs.PlacesLemmas.{bit_of, bits_at-below}
 use Rattle.nf_span.specs.Leads.{lead_bits, wants_look}
-use Rattle.nf_span.specs.Closer.{pairs_of, triples_of, wants_pair, wants_triple, wants_triples, kana_of, wide_of, look_at, IsOfForm}
+use Rattle.nf_span.specs.Closer.{pairs_of, triples_of, wants_pair, wants_triple, wants_triples, letters_of, kana_of, wide_of, look_at, IsOfForm}
 use Rattle.nf_span.specs.Window.{AreLooks}
 use Rattle.nf_span.proofs.WindowLemmas.{look_at-drop}
 
@@ -43,14 +43,15 @@ no_sets t rows lead next small =
 record NoLead (f : Form) : Type 0 where
   pairs : HasNoLead (pairs_of f)
   triples : HasNoLead (triples_of f).pairs
+  letters : HasNoLead (letters_of f).pairs
   kana : HasNoLead (kana_of f).pairs
   wide : HasNoLead (wide_of f).pairs
   leads : all_below (λ byte. lead_bits f byte == 0) 192 ≡ true
 
 no_lead : (f : Form) → NoLead f
 unfolding all_below
-no_lead Nfc = record { pairs = refl; triples = refl; kana = refl; wide = refl; leads = refl }
-no_lead _ = record { pairs = refl; triples = refl; kana = refl; wide = refl; leads = refl }
+no_lead Nfc = record { pairs = refl; triples = refl; letters = refl; kana = refl; wide = refl; leads = refl }
+no_lead _ = record { pairs = refl; triples = refl; letters = refl; kana = refl; wide = refl; leads = refl }
 
 module _ (f : Form) where
   no_lead_bits : (byte : ℕ) → byte < 192 → lead_bits f byte ≡ 0
@@ -110,4 +111,5 @@ module _ (f : Form) where
       pub by_triple : (t : Triples) → IsOfForm f t → AreLooks f bytes at (bits_at (triple_at t) at)
       by_triple t (inl kana) = by_triple_in t (rw kana (no_lead f).kana) (λ k none. grind (arith, kana))
       by_triple t (inr (inl wide)) = by_triple_in t (rw wide (no_lead f).wide) (λ k none. grind (arith, wide))
-      by_triple t (inr (inr others)) = by_triple_in t (rw others (no_lead f).triples) (λ k none. grind (arith, others))
+      by_triple t (inr (inr (inl letters))) = by_triple_in t (rw letters (no_lead f).letters) (λ k none. grind (arith, letters))
+      by_triple t (inr (inr (inr others))) = by_triple_in t (rw others (no_lead f).triples) (λ k none. grind (arith, others))

@@ -10,7 +10,7 @@ use Rattle.nf_forms.specs.declared.form.Form.TheVariants.{Nfc}
 use Rattle.nf_facts.specs.PlainRanges.{plain_ranges}
 use Rattle.nf_facts.specs.Within.{lies_within, in_ranges-lies_within, or_else}
 use Rattle.nf_span.specs.Leads.{lead_bits, wants_look}
-use Rattle.nf_span.specs.Closer.{pairs_of, triples_of, wants_pair, wants_triple, wants_triples, kana_of, wide_of, look_at}
+use Rattle.nf_span.specs.Closer.{pairs_of, triples_of, wants_pair, wants_triple, wants_triples, letters_of, kana_of, wide_of, look_at}
 use Rattle.nf_lanes.specs.Sets.{byte_sets, pair_sets, triple_sets}
 use Rattle.nf_lanes.specs.declared.sets.Triples.{Triples}
 use Rattle.nf_span.proofs.LookLemmas.{no_bits}
@@ -54,14 +54,15 @@ record Told (f : Form) : Type 0 where
   ascii : lies_within (plain_ranges f) 0 127 ≡ true
   of_two : all_below (told_two f) 32 ≡ true
   of_three : all_below (told_three f (triples_of f)) 16 ≡ true
+  of_letters : all_below (told_three f (letters_of f)) 16 ≡ true
   of_kana : all_below (told_three f (kana_of f)) 16 ≡ true
   of_wide : all_below (told_three f (wide_of f)) 16 ≡ true
   of_four : all_below (told_four f) 8 ≡ true
 
 told : (f : Form) → Told f
 unfolding plain_ranges all_below
-told Nfc = record { ascii = refl; of_two = refl; of_three = refl; of_kana = refl; of_wide = refl; of_four = refl }
-told _ = record { ascii = refl; of_two = refl; of_three = refl; of_kana = refl; of_wide = refl; of_four = refl }
+told Nfc = record { ascii = refl; of_two = refl; of_three = refl; of_letters = refl; of_kana = refl; of_wide = refl; of_four = refl }
+told _ = record { ascii = refl; of_two = refl; of_three = refl; of_letters = refl; of_kana = refl; of_wide = refl; of_four = refl }
 
 module _ (f : Form) where
   lies : (first last c : ℕ) → within f first last ≡ true → first ≤ c → c ≤ last → in_ranges (plain_ranges f) c ≡ true
@@ -78,7 +79,7 @@ module _ (f : Form) where
   asked_triple : (lead next last : ℕ) → not (bit_and (lead_bits f lead) 11 == 0) ≡ true → wants_triples f lead next last ≡ true
   asked_triple lead next last others =
       let hit : (t : Triples) → wants_triple t f lead next last ≡ true = λ t. asked_by (triple_sets t lead next last) _ others in
-      and_from _ _ (hit (triples_of f)) (and_from _ _ (hit (kana_of f)) (hit (wide_of f)))
+      and_from _ _ (hit (triples_of f)) (and_from _ _ (hit (letters_of f)) (and_from _ _ (hit (kana_of f)) (hit (wide_of f))))
 
   by_two : (k i last : ℕ) → k < 32 → i < 64 → look3 (192 + k) (128 + i) last ≡ false → in_ranges (plain_ranges f) (64 * k + i) ≡ true
   by_two k i last short little plain =
@@ -110,6 +111,7 @@ module _ (f : Form) where
       grind (
         arith,
         by_three_in (triples_of f) (told f).of_three k i j short little small large,
+        by_three_in (letters_of f) (told f).of_letters k i j short little small large,
         by_three_in (kana_of f) (told f).of_kana k i j short little small large,
         by_three_in (wide_of f) (told f).of_wide k i j short little small large,
       )

@@ -33,60 +33,36 @@ static DECOMPOSED_PAIRS: Pairs = Pairs {
     ],
 };
 
-// In NFC: E1, E2, EA and EF before 80 to AF, E0 and EF before B0 to BF, E1 and E2 before B0 to B7 and BC to BF, E0 before A0
-// to A3 and A6 to AF; E0 A4 and E0 A5 before 8C, 8D, BC and BD, E0 A5 before 90 to 9F, E3 80 before AA to AF, E3 82 before
-// 99 and 9A.
-static NFC_TRIPLES: Triples = Triples {
+// After E0, and in forms that compose after EA. The first set is of the other lead bytes that tell nothing, before any bytes; the
+// seven others are products of halves of bytes, found by a search: each character that may change is in one, and few of those
+// that stand most in the languages written there.
+static COMPOSED_TRIPLES: Triples = Triples {
     pairs: Pairs {
         first_high: [0, 0, 0, 0, 0, 0, 0, 0, 0, 0, 0, 0, 0, 0, 255, 0],
-        first_low: [58, 5, 5, 192, 0, 0, 0, 0, 0, 0, 1, 0, 0, 0, 0, 3],
-        next_high: [0, 0, 0, 0, 0, 0, 0, 0, 193, 1, 57, 6, 0, 0, 0, 0],
+        first_low: [250, 1, 1, 1, 0, 0, 0, 0, 0, 0, 68, 0, 0, 0, 0, 1],
+        next_high: [0, 0, 0, 0, 0, 0, 0, 0, 93, 205, 231, 187, 0, 0, 0, 0],
         next_low: [
-            79, 15, 143, 15, 23, 55, 15, 15, 11, 11, 11, 11, 15, 15, 15, 15,
+            101, 167, 101, 247, 45, 167, 133, 47, 45, 47, 45, 47, 151, 205, 31, 39,
         ],
     },
-    last_high: [
-        15, 15, 15, 15, 15, 15, 15, 15, 31, 175, 79, 31, 15, 15, 15, 15,
-    ],
+    last_high: [0, 0, 0, 0, 0, 0, 0, 0, 125, 199, 213, 239, 0, 0, 0, 0],
     last_low: [
-        47, 47, 47, 47, 47, 47, 47, 47, 47, 175, 239, 111, 127, 127, 111, 111,
+        85, 213, 213, 111, 149, 197, 111, 215, 79, 207, 79, 79, 247, 111, 207, 79,
     ],
 };
 
-// In NFKC: E1 to E3, EA and EF before 80 to AF, E0, E2, E3 and EF before B0 to BF, E1 before B0 to B7 and BC to BF, E0 before
-// A0 to A3 and A6 to AF; E0 A4 and E0 A5 before 8C, 8D, BC and BD, E0 A5 before 90 to 9F, E1 BA before 9A and 9B.
-static NFKC_TRIPLES: Triples = Triples {
-    pairs: Pairs {
-        first_high: [0, 0, 0, 0, 0, 0, 0, 0, 0, 0, 0, 0, 0, 0, 127, 0],
-        first_low: [30, 97, 3, 3, 0, 0, 0, 0, 0, 0, 1, 0, 0, 0, 0, 3],
-        next_high: [0, 0, 0, 0, 0, 0, 0, 0, 1, 1, 29, 98, 0, 0, 0, 0],
-        next_low: [39, 39, 39, 39, 43, 59, 39, 39, 7, 7, 71, 7, 39, 39, 39, 39],
-    },
-    last_high: [
-        39, 39, 39, 39, 39, 39, 39, 39, 47, 119, 39, 47, 39, 39, 39, 39,
-    ],
-    last_low: [
-        55, 55, 55, 55, 55, 55, 55, 55, 55, 55, 119, 119, 63, 63, 55, 55,
-    ],
-};
-
-// In forms that decompose: E2, E3, EA to ED and EF, E0 and E1 before 90 to 9F and B0 to BF, E1 before 80 to 83, 88 to 8F, A0
-// to A3 and A8 to AF, E0 before A0 to A3 and A6 to AF; E0 A4 before A9, E0 A4 and E1 A4 before B1, B4 and B9 to BC, E0 A5
-// before 8D and 90 to 9F.
 static DECOMPOSED_TRIPLES: Triples = Triples {
     pairs: Pairs {
         first_high: [0, 0, 0, 0, 0, 0, 0, 0, 0, 0, 0, 0, 0, 0, 255, 0],
-        first_low: [250, 38, 1, 1, 0, 0, 0, 0, 0, 0, 1, 1, 1, 1, 0, 1],
-        next_high: [1, 1, 1, 1, 1, 1, 1, 1, 5, 3, 253, 3, 1, 1, 1, 1],
+        first_low: [254, 1, 1, 1, 0, 0, 0, 0, 0, 0, 1, 1, 1, 1, 0, 1],
+        next_high: [0, 0, 0, 0, 0, 0, 0, 0, 123, 161, 119, 207, 0, 0, 0, 0],
         next_low: [
-            15, 15, 15, 15, 51, 195, 11, 11, 15, 15, 15, 15, 15, 15, 15, 15,
+            97, 11, 97, 185, 93, 91, 65, 71, 89, 75, 73, 201, 67, 63, 153, 197,
         ],
     },
-    last_high: [
-        15, 15, 15, 15, 15, 15, 15, 15, 79, 143, 31, 47, 15, 15, 15, 15,
-    ],
+    last_high: [0, 0, 0, 0, 0, 0, 0, 0, 237, 179, 165, 123, 0, 0, 0, 0],
     last_low: [
-        143, 175, 143, 143, 175, 143, 143, 143, 143, 191, 175, 175, 175, 207, 143, 143,
+        161, 179, 163, 185, 179, 35, 179, 163, 43, 47, 47, 47, 227, 235, 35, 35,
     ],
 };
 
@@ -105,8 +81,7 @@ pub(crate) fn triples_of(form: Form) -> &'static Triples
     ensures { result.now ≡ triples_of form }
 {
     match form {
-        Form::Nfc => &NFC_TRIPLES,
-        Form::Nfkc => &NFKC_TRIPLES,
+        Form::Nfc | Form::Nfkc => &COMPOSED_TRIPLES,
         Form::Nfd | Form::Nfkd => &DECOMPOSED_TRIPLES,
     }
 }

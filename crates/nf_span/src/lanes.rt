@@ -8,6 +8,7 @@ use crate::bytes::by_bytes;
 use crate::closer::{pairs_of, triples_of};
 use crate::kana::kana_of;
 use crate::leads::{ROWS, columns};
+use crate::letters::letters_of;
 use crate::wide::wide_of;
 use crate::window::Window;
 use nf_forms::Form;
@@ -109,8 +110,8 @@ fn window(form: Form, bytes: &[u8], at: usize, is_near: bool) -> Window
 }
 
 /// A bit for each byte from `at` on, the lowest for the first: whether a character that begins with it has to be looked up, where
-/// what stands after lead bytes is asked, for the sake of one: E2 and E3, of symbols and kana, and EF, of fullwidth letters, have
-/// sets of their own. Each copy has its tables at hand.
+/// what stands after lead bytes is asked, for the sake of one: E2 and E3, of symbols and kana, EF, of fullwidth letters, and E1
+/// have sets of their own. Each copy has its tables at hand, but that of E1 and the others.
 #[inline(always)]
 fn asked_looks(form: Form, lead: u8, bytes: &[u8], at: usize) -> u64
     requires room { at + 18 ≤ length bytes.now }
@@ -120,7 +121,14 @@ fn asked_looks(form: Form, lead: u8, bytes: &[u8], at: usize) -> u64
         0xD0..=0xDF => pair_looks(form, bytes, at),
         0xE2 | 0xE3 => triple_looks(form, kana_of(form), bytes, at),
         0xEF => triple_looks(form, wide_of(form), bytes, at),
-        0xE0..=0xEE => triple_looks(form, triples_of(form), bytes, at),
+        0xE0..=0xEE => {
+            let triples = if lead == 0xE1 {
+                letters_of(form)
+            } else {
+                triples_of(form)
+            };
+            triple_looks(form, triples, bytes, at)
+        }
         _ => lead_looks(form, bytes, at),
     }
 }

@@ -11,6 +11,7 @@ mod front;
 mod kana;
 mod lanes;
 mod leads;
+mod letters;
 mod marks;
 mod scan;
 mod span;

@@ -4,9 +4,9 @@ use nf_forms::Form;
 use nf_span::span_text;
 use std::test::Fail;
 
-/// Each letter passes in each form, and its lead byte, of two bytes and of three, does not tell it; E3 and EF
+/// Each letter passes in each form, and its lead byte, of two bytes and of three, does not tell it; E1, E3 and EF
 /// have sets of their own.
-const LETTERS: [&str; 4] = ["\u{628}", "\u{915}", "\u{306E}", "\u{FFFD}"];
+const LETTERS: [&str; 5] = ["\u{628}", "\u{915}", "\u{10D0}", "\u{306E}", "\u{FFFD}"];
 
 #[test]
 fn each_scalar_value_among_letters(rt: HostRuntime) -> Result<(), Fail> {

@@ -5,4 +5,4 @@ use Rattle.nf_lanes.proofs.lanes.bits_of_either.Goals as goal
 
 pub returns : goal.returns
 returns c h g at is others =
-    c.bits.ensures (λ k. bit_or (h k) (bit_and (g k) c.args.mask)) at (zip2_of_maps bit_or h _ (places at) is (zip2_splat bit_and c.args.others 16 c.args.mask c.fits-others.0 ∙ rw (others, map-map)))
+    c.bits.ensures.each (λ k. bit_or (h k) (bit_and (g k) c.args.mask)) at (zip2_of_maps bit_or h _ (places at) is (zip2_splat bit_and c.args.others 16 c.args.mask c.fits-others.0 ∙ rw (others, map-map)))

@@ -1,10 +1,8 @@
-use Rattle.std.proofs.Common.{arith}
-use Rattle.nf_lanes.specs.Looks.{at_pair, is_in}
-use Rattle.nf_lanes.proofs.PlacesLemmas.{bits_at-below}
+use Rattle.std.proofs.Common.{◌+◌, slice_index}
+use Rattle.nf_lanes.specs.Sets.{pair_sets}
 use Rattle.nf_lanes.proofs.looks.family_bits.Goals as goal
 
-pub of_64-requires : goal.of_64-requires
-of_64-requires c = search (arith, bits_at-below)
-
 pub returns : goal.returns
-returns c = c.of_64.ensures (at_pair (is_in c.args.family.now) c.args.bytes.now) c.args.at c.set_bits.ensures c.set_bits-2.ensures c.set_bits-3.ensures c.set_bits-4.ensures
+returns c =
+    c.bits_of_64.ensures (λ k. pair_sets c.args.family.now (slice_index c.args.bytes.now k) (slice_index c.args.bytes.now (k + 1))) c.args.at
+    c.pair_sets.ensures c.pair_sets-2.ensures c.pair_sets-3.ensures c.pair_sets-4.ensures
