@@ -1,6 +1,6 @@
 #!/usr/bin/env bash
 # Installs into a folder with a space, as a new user would: runs the program, looks at the shared library, the manuals and
-# the completions, builds and runs what README.md shows in C, Python and Rust, and takes all away again. Then the same of a
+# the completions, builds and runs what docs/CALLERS.md shows in C, Python and Rust, and takes all away again. Then the same of a
 # Debian package, which is installed below a folder and removed: bash tools/try_install.sh
 # What is not there is left out, and that is said.
 set -euo pipefail
@@ -24,12 +24,12 @@ gives() { # gives WHAT COMMAND..: it brings the names into NFC
     echo "$what: as it should be"
 }
 
-shown() { # shown HEAD: the first block of README.md after a line that begins so
+shown() { # shown HEAD: the first block of docs/CALLERS.md after a line that begins so
     awk -v head="$1" '
         index($0, head) == 1 { on = 1 }
         on && /^    / { print substr($0, 5); seen = 1; next }
         on && seen && /./ { exit }
-        on && seen { print "" }' README.md
+        on && seen { print "" }' docs/CALLERS.md
 }
 
 example() { # example NUMBER: an example of the header's manual
@@ -97,9 +97,9 @@ if python3 -c 'import ensurepip' 2> /dev/null; then
     "$python" -m pip --disable-pip-version-check -q install --no-index ./python
     shown '**Python**' > "$work/shown"
     (cd "$work" && "$python" -m doctest shown "$top/python/README.md")
-    echo "README's Python: as it should be"
+    echo "docs/CALLERS.md, Python: as it should be"
 else
-    left_out "README's Python: python3 is not there, or makes no venv with pip"
+    left_out "docs/CALLERS.md, Python: python3 is not there, or makes no venv with pip"
 fi
 
 if command -v cargo > /dev/null; then
@@ -107,9 +107,9 @@ if command -v cargo > /dev/null; then
     shown '**Rust**' > "$work/app/src/main.rs"
     printf '%s\n' '[package]' 'name = "app"' 'version = "1.0.0"' 'edition = "2021"' '[dependencies]' "nfstream = { path = \"$top/rust\" }" > "$work/app/Cargo.toml"
     (cd "$work/app" && CARGO_TARGET_DIR="$work/target" cargo build --offline --quiet)
-    gives "README's Rust" "$work/target/debug/app"
+    gives "docs/CALLERS.md, Rust" "$work/target/debug/app"
 else
-    left_out "README's Rust: no cargo"
+    left_out "docs/CALLERS.md, Rust: no cargo"
 fi
 
 bash install.sh --prefix "$prefix" --uninstall

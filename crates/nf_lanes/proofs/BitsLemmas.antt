@@ -1,9 +1,13 @@
 -- What falls away of bits where a pair of bytes, or the next, is in no set.
-use Rattle.std.proofs.Common.{◌≡◌, ◌+◌, ◌<◌, ◌⊎◌, inl, inr, ⊎_elim, ℕ, List, Bool, cond, bit_and, bit_or, arith, ◌/◌}
+use Rattle.std.proofs.Common.{◌≡◌, ◌+◌, ◌<◌, ◌⊎◌, inl, inr, ⊎_elim, ℕ, List, Bool, false, cond, bit_and, bit_or, bit_xor, get_or, arith, ◌/◌}
 use Rattle.std.specs.Int.{bit_at}
 use Rattle.std.proofs.str.Laws.{order}
+use Rattle.std.specs.Int.Bits.{xor_add_and}
+use Rattle.std.proofs.lemmas.Nat.{and_le_l, and_le_r, le_or_l, le_or_r}
 use Rattle.std.proofs.lemmas.Nat.Bits.{bit_at_and, bit_at_or, bit_at-lt, bit_at-suc}
-use Rattle.nf_lanes.specs.Looks.{at_pair, finds, is_in, NoneFound}
+use Rattle.nf_lanes.specs.Looks.{at_pair, finds, is_in, left_after, NoneAfter, NoneFound}
+use Rattle.nf_lanes.specs.Sets.{pair_sets}
+use Rattle.nf_lanes.specs.declared.sets.Pairs.{Pairs}
 use Rattle.nf_lanes.specs.declared.looks.Looks.{Looks}
 
 -- 64 bits, the lowest for the first place
@@ -16,6 +20,14 @@ found_by looks bytes at a b first second k within = grind (arith, bit_at_and a b
 
 pub narrower : (found others k : ℕ) → bit_at (bit_and found others) k ≡ 1 → bit_at found k ≡ 1
 narrower found others k one = grind (arith, bit_at_and found others k, bit_at-lt found k)
+
+-- a lead byte, and a pair after it in no set
+pub none_after : (t : Pairs) (lead : ℕ) (bytes : List ℕ) (k : ℕ) → left_after t lead bytes k ≡ false → NoneAfter (is_in t) lead bytes k
+none_after t lead bytes k told =
+    let others = bit_xor (get_or bytes k 0) lead in
+    let sets = pair_sets t (get_or bytes (k + 1) 0) (get_or bytes (k + 1 + 1) 0) in
+    let same : others ≡ 0 = grind (arith, le_or_l others sets) in
+    (omega (arith, same, xor_add_and (get_or bytes k 0) lead, and_le_l (get_or bytes k 0) lead, and_le_r (get_or bytes k 0) lead), grind (arith, le_or_r others sets))
 
 module _ (bytes : List ℕ) (at k : ℕ) (few : k < 63) where
   -- where a bit falls away, neither of the two pairs is found

@@ -36,16 +36,6 @@ pub(crate) fn at_least(least: u8, bytes: &[u8], at: usize) -> u64
     lanes.simd_ge(u8x16::splat(least)).to_bitmask()
 }
 
-/// A bit for each byte from `at` on that is this one.
-#[inline(always)]
-pub(crate) fn at_equal(byte: u8, bytes: &[u8], at: usize) -> u64
-    requires room { at + 16 ≤ length bytes.now }
-    ensures { result ≡ bits_at (λ k. slice_index bytes.now k == byte) at }
-{
-    let lanes = u8x16::from_slice(&bytes[at..]);
-    lanes.simd_eq(u8x16::splat(byte)).to_bitmask()
-}
-
 /// Whether all lanes are 0 of four times 16 places, one after the other.
 #[inline(always)]
 pub fn none_of(first: u8x16, second: u8x16, third: u8x16, last: u8x16) -> bool

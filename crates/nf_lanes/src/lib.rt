@@ -1,5 +1,5 @@
-//! Eight sets of bytes, of pairs of bytes or of three bytes, each a bit: what tables by the high and by the low half of a byte
-//! both allow. 16 places of a text are asked at once.
+//! Eight sets of bytes or of pairs of bytes, each a bit: what tables by the high and by the low half of a byte both allow. 16
+//! places of a text are asked at once.
 #![tactic(auto)]
 
 mod lanes;
@@ -8,6 +8,6 @@ mod scripts;
 mod sets;
 
 pub use lanes::{LANES, bits, bits_of_either, none_of};
-pub use looks::{Looks, found_by_both, found_leads, none_found};
+pub use looks::{Looks, found_by_both, found_leads, left_after, none_found};
 pub use scripts::{Scripts, found_in_script};
-pub use sets::{Pairs, Triples, byte_sets, pair_sets, triple_sets};
+pub use sets::{Pairs, byte_sets, pair_sets};

@@ -3,11 +3,13 @@
 ghost use Rattle.std.specs.Prelude.{◌≡◌, ◌<◌, ◌≤◌, ◌+◌, ◌⊎◌, ◌↔◌, ◌/◌, ◌^◌, ◌*◌, bit_and, ℕ, IsTrue, length, slice_index, if◌then◌else◌};
 ghost use Rattle.std.specs.Int.{bit_at};
 ghost use Rattle.nf_lanes.specs.Scripts.{IsToldInScript};
-ghost use Rattle.nf_lanes.specs.Looks.{is_in, finds, at_pair, NoneFound, NoneAfter};
+ghost use Rattle.nf_lanes.specs.Lanes.{bits_at};
+ghost use Rattle.nf_lanes.specs.Looks.{is_in, finds, at_pair, left_after, NoneFound, NoneAfter};
 
-use crate::lanes::{at_equal, at_least, bits_of_64, none_of, of_64};
+use crate::lanes::{at_least, bits, bits_of_64, none_of, of_64};
 use crate::scripts::{Scripts, found_in_script};
 use crate::sets::{Pairs, pair_sets};
+use std::simd::u8x16;
 
 /// Of so few characters no pair is asked: in Latin most of those that are not ASCII have to be looked up.
 const MIN_LEADS: u32 = 14;
@@ -104,13 +106,25 @@ pub(crate) fn found_after(found: u64, lead: u8, family: &Pairs, bytes: &[u8], at
     ensures fewer { (k : ℕ) → bit_at result k ≡ 1 → bit_at found k ≡ 1 }
     ensures told { (k : ℕ) → k < 63 → bit_at found k ≡ 1 → bit_at result k ≡ 0 → NoneAfter (is_in family.now) lead bytes.now (at + k) }
 {
-    let leads = of_64(
-        at_equal(lead, bytes, at),
-        at_equal(lead, bytes, at + 16),
-        at_equal(lead, bytes, at + 32),
-        at_equal(lead, bytes, at + 48),
+    let left = of_64(
+        left_after(lead, family, bytes, at),
+        left_after(lead, family, bytes, at + 16),
+        left_after(lead, family, bytes, at + 32),
+        left_after(lead, family, bytes, at + 48),
     );
-    found & (family_bits(family, bytes, at + 1) | !leads)
+    found & left
+}
+
+/// A bit for each of 16 bytes from `at` on, the lowest for the first, but each that is `lead` where the pair after it is in no set
+/// of the family.
+#[inline(always)]
+pub fn left_after(lead: u8, family: &Pairs, bytes: &[u8], at: usize) -> u64
+    requires room { at + 18 ≤ length bytes.now }
+    ensures few { result < 65536 }
+    ensures left { result ≡ bits_at (left_after family.now lead bytes.now) at }
+{
+    let others = u8x16::from_slice(&bytes[at..]) ^ u8x16::splat(lead);
+    bits(others | pair_sets(family, bytes, at + 1))
 }
 
 /// A bit for each of 63 bytes from `at` on, the lowest for the first, that is `least` or above.

@@ -2,7 +2,7 @@
 
 ghost use Rattle.std.specs.Prelude.{◌≡◌, ◌≤◌, ◌+◌, ℕ, length, slice_index, map};
 ghost use Rattle.nf_lanes.specs.Lanes.{places};
-ghost use Rattle.nf_lanes.specs.Sets.{byte_sets, pair_sets, triple_sets};
+ghost use Rattle.nf_lanes.specs.Sets.{byte_sets, pair_sets};
 
 use std::simd::prelude::*;
 
@@ -13,13 +13,6 @@ pub struct Pairs {
     pub first_low: [u8; 16],
     pub next_high: [u8; 16],
     pub next_low: [u8; 16],
-}
-
-/// Eight sets of three bytes, by the halves of each.
-pub struct Triples {
-    pub pairs: Pairs,
-    pub last_high: [u8; 16],
-    pub last_low: [u8; 16],
 }
 
 /// The sets that the byte at each place from `at` on is in: those that both of its halves allow.
@@ -40,17 +33,6 @@ pub fn pair_sets(pairs: &Pairs, bytes: &[u8], at: usize) -> u8x16
     let first = byte_sets(&pairs.first_high, &pairs.first_low, bytes, at);
     let next = byte_sets(&pairs.next_high, &pairs.next_low, bytes, at + 1);
     first & next
-}
-
-/// The same of the three bytes from each place on.
-#[inline(always)]
-pub fn triple_sets(triples: &Triples, bytes: &[u8], at: usize) -> u8x16
-    requires room { at + 18 ≤ length bytes.now }
-    ensures { result ≡ map (λ k. triple_sets triples.now (slice_index bytes.now k) (slice_index bytes.now (k + 1)) (slice_index bytes.now (k + 2))) (places at) }
-{
-    let pair = pair_sets(&triples.pairs, bytes, at);
-    let last = byte_sets(&triples.last_high, &triples.last_low, bytes, at + 2);
-    pair & last
 }
 
 /// What the tables have for both halves of each lane.

@@ -1,20 +1,22 @@
 -- Where bytes tell of a character, and where one begins.
-use Rattle.std.proofs.Common.{◌≡◌, inl, inr, ℕ, ◌+◌, ◌/◌, ◌<◌, ◌≤◌, Bool, true, false, not, ◌&&◌, ◌==◌, List, get_or, bit_and, bit_or, cond, refl, sym, ap, ◌∙◌, arith, eqb-true}
+use Rattle.std.proofs.Common.{◌≡◌, ⊎_elim, ℕ, ◌+◌, ◌/◌, ◌<◌, ◌≤◌, Bool, true, false, not, ◌&&◌, ◌||◌, ◌==◌, List, drop, get_or, bit_and, bit_or, cond, refl, sym, ap, ◌∙◌, arith, eqb-true}
 use Rattle.std.specs.Int.{bit_at}
 use Rattle.std.proofs.lemmas.List.{get_or-drop, length-drop}
 use Rattle.std.proofs.lemmas.Nat.{and_le_l, le_or_l, le_or_r}
-use Rattle.std.proofs.lemmas.Nat.Bits.{bit_at_above}
+use Rattle.std.proofs.lemmas.Nat.Bits.{bit_at_above, bit_at_and, bit_at-lt}
+use Rattle.std.proofs.str.Laws.{order}
 use Rattle.ucd_table.proofs.TrieCheck.{all_below, all_below-at}
 use Rattle.nf_forms.specs.declared.form.Form.{Form}
 use Rattle.nf_forms.specs.declared.form.Form.TheVariants.{Nfc}
 use Rattle.nf_lanes.specs.Lanes.{bits_at}
-use Rattle.nf_lanes.specs.Sets.{byte_sets, pair_sets, triple_sets}
+use Rattle.nf_lanes.specs.Looks.{left_after}
+use Rattle.nf_lanes.specs.Sets.{byte_sets, pair_sets}
 use Rattle.nf_lanes.specs.declared.sets.Pairs.{Pairs}
-use Rattle.nf_lanes.specs.declared.sets.Triples.{Triples}
+use Rattle.nf_lanes.proofs.BitsLemmas.{narrower, none_after}
 use Rattle.nf_lanes.proofs.PlacesLemmas.{bit_of, bits_at-below}
 use Rattle.nf_span.specs.Leads.{lead_bits, wants_look}
-use Rattle.nf_span.specs.Closer.{pairs_of, triples_of, wants_pair, wants_triple, wants_triples, letters_of, kana_of, wide_of, look_at, IsOfForm}
-use Rattle.nf_span.specs.Window.{AreLooks}
+use Rattle.nf_span.specs.Closer.{family_of, is_asked, pairs_of, wants_after, wants_pair, look_at}
+use Rattle.nf_span.specs.Window.{AreLooks, IsWindow}
 use Rattle.nf_span.proofs.WindowLemmas.{look_at-drop}
 
 -- neither number has a bit
@@ -29,6 +31,12 @@ is_set : (b : Bool) → ◌≡◌ {A = ℕ} (cond b 1 0) 1 → b ≡ true
 is_set true _ = refl
 is_set false e = absurd (omega (arith, e))
 
+no_part : (a b : Bool) {c : Bool} → c ≡ false → a && (b && c) ≡ false
+no_part a b e = grind (arith, e)
+
+not_after : (a b : Bool) → a ≡ true → b ≡ false → not a || b ≡ false
+not_after a b asked none = grind (arith, asked, none)
+
 -- no set has a pair that begins with a byte below C0
 abbrev HasNoLead : Pairs → Type 0
 HasNoLead t = all_below (λ h. get_or t.first_high h 0 == 0) 12 ≡ true
@@ -42,16 +50,12 @@ no_sets t rows lead next small =
 -- the tables have nothing for a byte that is no lead byte
 record NoLead (f : Form) : Type 0 where
   pairs : HasNoLead (pairs_of f)
-  triples : HasNoLead (triples_of f).pairs
-  letters : HasNoLead (letters_of f).pairs
-  kana : HasNoLead (kana_of f).pairs
-  wide : HasNoLead (wide_of f).pairs
   leads : all_below (λ byte. lead_bits f byte == 0) 192 ≡ true
 
 no_lead : (f : Form) → NoLead f
 unfolding all_below
-no_lead Nfc = record { pairs = refl; triples = refl; letters = refl; kana = refl; wide = refl; leads = refl }
-no_lead _ = record { pairs = refl; triples = refl; letters = refl; kana = refl; wide = refl; leads = refl }
+no_lead Nfc = record { pairs = refl; leads = refl }
+no_lead _ = record { pairs = refl; leads = refl }
 
 module _ (f : Form) where
   no_lead_bits : (byte : ℕ) → byte < 192 → lead_bits f byte ≡ 0
@@ -71,14 +75,11 @@ module _ (f : Form) where
     abbrev pair_at : ℕ → Bool
     pair_at k = wants_pair f (get_or bytes k 0) (get_or bytes (k + 1) 0)
 
-    abbrev triple_at : Triples → ℕ → Bool
-    triple_at t k = wants_triple t f (get_or bytes k 0) (get_or bytes (k + 1) 0) (get_or bytes (k + 2) 0)
-
-    abbrev triples_at : ℕ → Bool
-    triples_at k = wants_triples f (get_or bytes k 0) (get_or bytes (k + 1) 0) (get_or bytes (k + 2) 0)
+    abbrev after_at : ℕ → Bool
+    after_at k = wants_after f (get_or bytes k 0) (get_or bytes (k + 1) 0) (get_or bytes (k + 2) 0)
 
     pub told_by_lead : (k : ℕ) → wants_look f (get_or bytes k 0) ≡ false → look_at f bytes k ≡ false
-    told_by_lead k e = ap (λ b. b && (pair_at k && triples_at k)) e
+    told_by_lead k e = ap (λ b. b && (pair_at k && after_at k)) e
 
     -- what the bits of a test tell
     module _ (at : ℕ) where
@@ -100,16 +101,23 @@ module _ (f : Form) where
       pub by_pair : AreLooks f bytes at (bits_at pair_at at)
       by_pair = by_test pair_at (λ k none. grind arith) (λ k. begins_with (get_or bytes k 0) _ 13 (no_sets (pairs_of f) (no_lead f).pairs _ (get_or bytes (k + 1) 0)))
 
-      by_triple_in : (t : Triples) → HasNoLead t.pairs → ((k : ℕ) → triple_at t k ≡ false → look_at f bytes k ≡ false) → AreLooks f bytes at (bits_at (triple_at t) at)
-      by_triple_in t rows told =
-          by_test (triple_at t) told (λ k.
-          let lead = get_or bytes k 0 in
-          let next = get_or bytes (k + 1) 0 in
-          begins_with lead (triple_sets t lead next (get_or bytes (k + 2) 0)) 11
-          (λ small. omega (arith, no_sets t.pairs rows lead next small, and_le_l (pair_sets t.pairs lead next) (byte_sets t.last_high t.last_low (get_or bytes (k + 2) 0)))))
+      -- what is left of them where the two bytes after a lead byte are asked
+      module _ (lead looks left : ℕ) (asked : is_asked lead ≡ true) (are : AreLooks f bytes at looks) (left_is : left ≡ bits_at (left_after (family_of f lead) lead bytes) at) where
+        told_after : (k : ℕ) → k < 16 → bit_at left k ≡ 0 → look_at f bytes (at + k) ≡ false
+        told_after k few zero =
+            let t = family_of f lead in
+            let j = at + k in
+            let none = none_after t lead bytes j (unset _ (sym (bit_of (left_after t lead bytes) at left k j left_is refl few) ∙ zero)) in
+            let is : j + 1 + 1 ≡ j + 2 = omega arith in
+            no_part (wants_look f (get_or bytes j 0)) (pair_at j) (rw none.0 (not_after (is_asked lead) _ asked (rw is at none.1)))
 
-      pub by_triple : (t : Triples) → IsOfForm f t → AreLooks f bytes at (bits_at (triple_at t) at)
-      by_triple t (inl kana) = by_triple_in t (rw kana (no_lead f).kana) (λ k none. grind (arith, kana))
-      by_triple t (inr (inl wide)) = by_triple_in t (rw wide (no_lead f).wide) (λ k none. grind (arith, wide))
-      by_triple t (inr (inr (inl letters))) = by_triple_in t (rw letters (no_lead f).letters) (λ k none. grind (arith, letters))
-      by_triple t (inr (inr (inr others))) = by_triple_in t (rw others (no_lead f).triples) (λ k none. grind (arith, others))
+        pub by_family : AreLooks f bytes at (bit_and looks left)
+        by_family window is long =
+            let found : IsWindow f (drop at bytes) (record { looks = looks; after = window.after }) = are _ refl long in
+            record {
+              plain = λ k inside none. ⊎_elim
+                  (λ zero. found.plain k inside (omega (arith, zero)))
+                  (λ some. look_at-drop f bytes at k ∙ told_after k (omega (arith, inside, long, length-drop at bytes)) (grind (arith, some, is, none, bit_at_and looks left k, bit_at-lt looks k)))
+                  (order (bit_at looks k) 1);
+              begins = λ k one. found.begins k (narrower looks left k (rw is at one));
+            }

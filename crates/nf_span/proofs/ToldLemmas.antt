@@ -1,8 +1,9 @@
 -- What bytes tell of a character is so: a character of which they tell that it passes lies in the form's ranges.
-use Rattle.std.proofs.Common.{◌≡◌, ℕ, ◌+◌, ◌*◌, ◌/◌, ◌%◌, ◌<◌, ◌≤◌, ◌⊎◌, inl, inr, Bool, true, false, not, ◌&&◌, ◌==◌, nat_lt, List, ◌++◌, bit_and, bit_or, refl, arith, le-ltb}
+use Rattle.std.proofs.Common.{◌≡◌, ℕ, ◌+◌, ◌*◌, ◌/◌, ◌%◌, ◌<◌, ◌≤◌, ◌⊎◌, inl, inr, Bool, true, false, not, ◌&&◌, ◌||◌, ◌==◌, nat_lt, List, ◌++◌, bit_and, bit_or, refl, ap, arith, le-ltb}
 use Rattle.std.specs.Prelude.{encode_utf8}
 use Rattle.std.proofs.str.Laws.{order, two, three, four}
-use Rattle.std.proofs.lemmas.Bool.{and_from}
+use Rattle.std.proofs.lemmas.Bool.Decides.{nat_tests}
+use Rattle.nf_lanes.specs.Looks.{is_in}
 use Rattle.ucd_table.specs.Rows.{in_ranges}
 use Rattle.ucd_table.proofs.TrieCheck.{all_below, all_below-at}
 use Rattle.nf_forms.specs.declared.form.Form.{Form}
@@ -10,13 +11,13 @@ use Rattle.nf_forms.specs.declared.form.Form.TheVariants.{Nfc}
 use Rattle.nf_facts.specs.PlainRanges.{plain_ranges}
 use Rattle.nf_facts.specs.Within.{lies_within, in_ranges-lies_within, or_else}
 use Rattle.nf_span.specs.Leads.{lead_bits, wants_look}
-use Rattle.nf_span.specs.Closer.{pairs_of, triples_of, wants_pair, wants_triple, wants_triples, letters_of, kana_of, wide_of, look_at}
-use Rattle.nf_lanes.specs.Sets.{byte_sets, pair_sets, triple_sets}
-use Rattle.nf_lanes.specs.declared.sets.Triples.{Triples}
+use Rattle.nf_span.specs.Closer.{family_of, is_asked, pairs_of, wants_after, wants_pair, look_at}
+use Rattle.nf_lanes.specs.Sets.{byte_sets, pair_sets}
+use Rattle.nf_lanes.specs.declared.sets.Pairs.{Pairs}
 use Rattle.nf_span.proofs.LookLemmas.{no_bits}
 
--- by lead bytes: all that begins with one lies in the form's ranges; or it has to be looked up, also where the bytes after
--- lead bytes of another length are asked, and each that the bytes after do not find lies there
+-- by lead bytes: all that begins with one lies in the form's ranges; or it has to be looked up, and each that the bytes after do
+-- not find lies there
 module _ (f : Form) where
   abbrev within : ℕ → ℕ → Bool
   within = lies_within (plain_ranges f)
@@ -25,44 +26,40 @@ module _ (f : Form) where
   told_second k i = or_else (wants_pair f (192 + k) (128 + i)) (λ _. within (64 * k + i) (64 * k + i))
 
   abbrev told_two : ℕ → Bool
-  told_two k =
-      or_else (within (64 * k) (64 * k + 63)) (λ _.
-      wants_look f (192 + k) && (not (bit_and (lead_bits f (192 + k)) 11 == 0) && all_below (told_second k) 64))
+  told_two k = or_else (within (64 * k) (64 * k + 63)) (λ _. wants_look f (192 + k) && all_below (told_second k) 64)
 
-  -- by the sets t alone
-  module _ (t : Triples) where
+  -- by the sets t
+  module _ (t : Pairs) where
     abbrev told_third : ℕ → ℕ → ℕ → Bool
-    told_third hits base j =
-        or_else (not (bit_and hits (byte_sets t.last_high t.last_low (128 + j)) == 0)) (λ _. within (base + j) (base + j))
+    told_third hits base j = or_else (not (bit_and hits (byte_sets t.next_high t.next_low (128 + j)) == 0)) (λ _. within (base + j) (base + j))
 
     -- the second bytes of E0 begin at A0
     abbrev told_block : ℕ → ℕ → Bool
     told_block k i =
         or_else (within (4096 * k + 64 * i) (4096 * k + 64 * i + 63)) (λ _.
-        or_else (nat_lt (4096 * k + 64 * i) 2048) (λ _. all_below (told_third (pair_sets t.pairs (224 + k) (128 + i)) (4096 * k + 64 * i)) 64))
+        or_else (nat_lt (4096 * k + 64 * i) 2048) (λ _. all_below (told_third (byte_sets t.first_high t.first_low (128 + i)) (4096 * k + 64 * i)) 64))
 
-    abbrev told_three : ℕ → Bool
-    told_three k =
-        or_else (within (4096 * k) (4096 * k + 4095)) (λ _. wants_look f (224 + k) && (not (bit_and (lead_bits f (224 + k)) 13 == 0) && all_below (told_block k) 64))
+  abbrev told_three : ℕ → Bool
+  told_three k =
+      or_else (within (4096 * k) (4096 * k + 4095)) (λ _.
+      wants_look f (224 + k) && (not (bit_and (lead_bits f (224 + k)) 13 == 0) && or_else (not (is_asked (224 + k))) (λ _. all_below (told_block (family_of f (224 + k)) k) 64)))
 
   abbrev told_four : ℕ → Bool
-  told_four k =
-      or_else (within (262144 * k) (262144 * k + 262143)) (λ _.
-      wants_look f (240 + k) && (not (bit_and (lead_bits f (240 + k)) 13 == 0) && not (bit_and (lead_bits f (240 + k)) 11 == 0)))
+  told_four k = or_else (within (262144 * k) (262144 * k + 262143)) (λ _. wants_look f (240 + k) && not (bit_and (lead_bits f (240 + k)) 13 == 0))
 
 record Told (f : Form) : Type 0 where
   ascii : lies_within (plain_ranges f) 0 127 ≡ true
   of_two : all_below (told_two f) 32 ≡ true
-  of_three : all_below (told_three f (triples_of f)) 16 ≡ true
-  of_letters : all_below (told_three f (letters_of f)) 16 ≡ true
-  of_kana : all_below (told_three f (kana_of f)) 16 ≡ true
-  of_wide : all_below (told_three f (wide_of f)) 16 ≡ true
+  of_three : all_below (told_three f) 16 ≡ true
   of_four : all_below (told_four f) 8 ≡ true
 
 told : (f : Form) → Told f
 unfolding plain_ranges all_below
-told Nfc = record { ascii = refl; of_two = refl; of_three = refl; of_letters = refl; of_kana = refl; of_wide = refl; of_four = refl }
-told _ = record { ascii = refl; of_two = refl; of_three = refl; of_letters = refl; of_kana = refl; of_wide = refl; of_four = refl }
+told Nfc = record { ascii = refl; of_two = refl; of_three = refl; of_four = refl }
+told _ = record { ascii = refl; of_two = refl; of_three = refl; of_four = refl }
+
+none_asked : (k : ℕ) → is_asked (240 + k) ≡ false
+none_asked k = grind (arith, nat_tests)
 
 module _ (f : Form) where
   lies : (first last c : ℕ) → within f first last ≡ true → first ≤ c → c ≤ last → in_ranges (plain_ranges f) c ≡ true
@@ -70,51 +67,38 @@ module _ (f : Form) where
 
   -- what is said of the bytes at a place
   abbrev pub look3 : ℕ → ℕ → ℕ → Bool
-  look3 lead next last = wants_look f lead && (wants_pair f lead next && wants_triples f lead next last)
+  look3 lead next last = wants_look f lead && (wants_pair f lead next && wants_after f lead next last)
 
   -- where a bit of the lead byte's is set, the bits of the sets with it are not none
   asked_by : (sets bits : ℕ) → not (bits == 0) ≡ true → not (bit_or sets bits == 0) ≡ true
   asked_by sets bits others = grind (arith, no_bits sets bits)
 
-  asked_triple : (lead next last : ℕ) → not (bit_and (lead_bits f lead) 11 == 0) ≡ true → wants_triples f lead next last ≡ true
-  asked_triple lead next last others =
-      let hit : (t : Triples) → wants_triple t f lead next last ≡ true = λ t. asked_by (triple_sets t lead next last) _ others in
-      and_from _ _ (hit (triples_of f)) (and_from _ _ (hit (letters_of f)) (and_from _ _ (hit (kana_of f)) (hit (wide_of f))))
-
   by_two : (k i last : ℕ) → k < 32 → i < 64 → look3 (192 + k) (128 + i) last ≡ false → in_ranges (plain_ranges f) (64 * k + i) ≡ true
   by_two k i last short little plain =
       let c = 64 * k + i in
-      grind (arith, lies (64 * k) (64 * k + 63) c, lies c c c, all_below-at (told_two f) 32 k (told f).of_two short, all_below-at (told_second f k) 64 i, asked_triple (192 + k) (128 + i) last)
+      grind (arith, lies (64 * k) (64 * k + 63) c, lies c c c, all_below-at (told_two f) 32 k (told f).of_two short, all_below-at (told_second f k) 64 i)
 
-  by_three_in : (t : Triples) → all_below (told_three f t) 16 ≡ true → (k i j : ℕ) → k < 16 → i < 64 → j < 64 → 2048 ≤ 4096 * k + 64 * i + j
-      → (wants_look f (224 + k) && (wants_pair f (224 + k) (128 + i) && wants_triple t f (224 + k) (128 + i) (128 + j))) ≡ false → in_ranges (plain_ranges f) (4096 * k + 64 * i + j) ≡ true
-  by_three_in t all k i j short little small large plain =
+  by_three : (k i j : ℕ) → k < 16 → i < 64 → j < 64 → 2048 ≤ 4096 * k + 64 * i + j → look3 (224 + k) (128 + i) (128 + j) ≡ false → in_ranges (plain_ranges f) (4096 * k + 64 * i + j) ≡ true
+  by_three k i j short little small large plain =
       let base = 4096 * k + 64 * i in
       let c = base + j in
-      let hits = pair_sets t.pairs (224 + k) (128 + i) in
+      let t = family_of f (224 + k) in
+      let hits = byte_sets t.first_high t.first_low (128 + i) in
       grind (
         arith,
         lies (4096 * k) (4096 * k + 4095) c,
         lies base (base + 63) c,
         lies c c c,
         le-ltb base 2048,
-        all_below-at (told_three f t) 16 k all short,
+        all_below-at (told_three f) 16 k (told f).of_three short,
         all_below-at (told_block f t k) 64 i,
         all_below-at (told_third f t hits base) 64 j,
         asked_by (pair_sets (pairs_of f) (224 + k) (128 + i)) (bit_and (lead_bits f (224 + k)) 13),
-        no_bits (triple_sets t (224 + k) (128 + i) (128 + j)) (bit_and (lead_bits f (224 + k)) 11),
       )
 
-  -- one of the sets tells it
-  by_three : (k i j : ℕ) → k < 16 → i < 64 → j < 64 → 2048 ≤ 4096 * k + 64 * i + j → look3 (224 + k) (128 + i) (128 + j) ≡ false → in_ranges (plain_ranges f) (4096 * k + 64 * i + j) ≡ true
-  by_three k i j short little small large plain =
-      grind (
-        arith,
-        by_three_in (triples_of f) (told f).of_three k i j short little small large,
-        by_three_in (letters_of f) (told f).of_letters k i j short little small large,
-        by_three_in (kana_of f) (told f).of_kana k i j short little small large,
-        by_three_in (wide_of f) (told f).of_wide k i j short little small large,
-      )
+  -- after a lead byte of four nothing is asked
+  asked_four : (k next last : ℕ) → wants_after f (240 + k) next last ≡ true
+  asked_four k next last = ap (λ b. not b || is_in (family_of f (240 + k)) next last) (none_asked k)
 
   by_four : (k next last c : ℕ) → k < 8 → 262144 * k ≤ c → c ≤ 262144 * k + 262143 → look3 (240 + k) next last ≡ false → in_ranges (plain_ranges f) c ≡ true
   by_four k next last c short low high plain =
@@ -123,7 +107,7 @@ module _ (f : Form) where
         lies (262144 * k) (262144 * k + 262143) c,
         all_below-at (told_four f) 8 k (told f).of_four short,
         asked_by (pair_sets (pairs_of f) (240 + k) next) (bit_and (lead_bits f (240 + k)) 13),
-        asked_triple (240 + k) next last,
+        asked_four k next last,
       )
 
   -- a character that stands at the front of these bytes

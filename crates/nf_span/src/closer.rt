@@ -1,11 +1,18 @@
 //! What the bytes after a lead byte tell, where that alone does not tell that a character passes: it has to be looked up if
-//! its first bytes are in some set.
+//! they, or it and the next, are in some set.
 
 ghost use Rattle.std.specs.Prelude.{◌≡◌};
-ghost use Rattle.nf_span.specs.Closer.{pairs_of, triples_of};
+ghost use Rattle.nf_lanes.specs.declared.sets.Pairs.{Pairs};
+ghost use Rattle.nf_span.specs.Closer.{either_of, family_of, is_asked, pairs_of};
 
+use crate::kana::kana_of;
+use crate::scripts::{
+    COMPOSED_INDIC, COMPOSED_LETTERS, COMPOSED_YI, DECOMPOSED_INDIC, DECOMPOSED_LETTERS,
+    DECOMPOSED_YI,
+};
+use crate::wide::wide_of;
 use nf_forms::Form;
-use nf_lanes::{Pairs, Triples};
+use nf_lanes::Pairs;
 
 // In forms that compose: D6 and DB before 90 to AF, D5, D8 and D9 before 90 to 9F, D9 before 8B to 8F, D2, D6 and D7 before
 // 80 to 8F, DC, DD and DF, D6 before B0 to BF, D9 before B0 and B5 to B8.
@@ -33,55 +40,43 @@ static DECOMPOSED_PAIRS: Pairs = Pairs {
     ],
 };
 
-// After E0, and in forms that compose after EA. The first set is of the other lead bytes that tell nothing, before any bytes; the
-// seven others are products of halves of bytes, found by a search: each character that may change is in one, and few of those
-// that stand most in the languages written there.
-static COMPOSED_TRIPLES: Triples = Triples {
-    pairs: Pairs {
-        first_high: [0, 0, 0, 0, 0, 0, 0, 0, 0, 0, 0, 0, 0, 0, 255, 0],
-        first_low: [250, 1, 1, 1, 0, 0, 0, 0, 0, 0, 68, 0, 0, 0, 0, 1],
-        next_high: [0, 0, 0, 0, 0, 0, 0, 0, 93, 205, 231, 187, 0, 0, 0, 0],
-        next_low: [
-            101, 167, 101, 247, 45, 167, 133, 47, 45, 47, 45, 47, 151, 205, 31, 39,
-        ],
-    },
-    last_high: [0, 0, 0, 0, 0, 0, 0, 0, 125, 199, 213, 239, 0, 0, 0, 0],
-    last_low: [
-        85, 213, 213, 111, 149, 197, 111, 215, 79, 207, 79, 79, 247, 111, 207, 79,
-    ],
-};
-
-static DECOMPOSED_TRIPLES: Triples = Triples {
-    pairs: Pairs {
-        first_high: [0, 0, 0, 0, 0, 0, 0, 0, 0, 0, 0, 0, 0, 0, 255, 0],
-        first_low: [254, 1, 1, 1, 0, 0, 0, 0, 0, 0, 1, 1, 1, 1, 0, 1],
-        next_high: [0, 0, 0, 0, 0, 0, 0, 0, 123, 161, 119, 207, 0, 0, 0, 0],
-        next_low: [
-            97, 11, 97, 185, 93, 91, 65, 71, 89, 75, 73, 201, 67, 63, 153, 197,
-        ],
-    },
-    last_high: [0, 0, 0, 0, 0, 0, 0, 0, 237, 179, 165, 123, 0, 0, 0, 0],
-    last_low: [
-        161, 179, 163, 185, 179, 35, 179, 163, 43, 47, 47, 47, 227, 235, 35, 35,
-    ],
-};
-
+/// The sets of pairs that a lead byte from D0 to DF and the next one are.
 #[inline(always)]
 pub(crate) fn pairs_of(form: Form) -> &'static Pairs
     ensures { result.now ≡ pairs_of form }
 {
-    match form {
-        Form::Nfc | Form::Nfkc => &COMPOSED_PAIRS,
-        Form::Nfd | Form::Nfkd => &DECOMPOSED_PAIRS,
+    either_of(form, &COMPOSED_PAIRS, &DECOMPOSED_PAIRS)
+}
+
+/// Whether the two bytes after it are asked.
+#[inline(always)]
+pub(crate) fn is_asked(lead: u8) -> bool
+    ensures { result ≡ is_asked lead }
+{
+    matches!(lead, 0xE0..=0xE3 | 0xEA | 0xEF)
+}
+
+/// The sets of pairs that stand after such a lead byte.
+#[inline(always)]
+pub(crate) fn family_of(form: Form, lead: u8) -> &'static Pairs
+    ensures { result.now ≡ family_of form lead }
+{
+    match lead {
+        0xE0 => either_of(form, &COMPOSED_INDIC, &DECOMPOSED_INDIC),
+        0xE1 => either_of(form, &COMPOSED_LETTERS, &DECOMPOSED_LETTERS),
+        0xE3 => kana_of(form),
+        0xEA => either_of(form, &COMPOSED_YI, &DECOMPOSED_YI),
+        _ => wide_of(form),
     }
 }
 
+/// The sets of forms that compose, or of the others.
 #[inline(always)]
-pub(crate) fn triples_of(form: Form) -> &'static Triples
-    ensures { result.now ≡ triples_of form }
+fn either_of(form: Form, composed: &'static Pairs, decomposed: &'static Pairs) -> &'static Pairs
+    ensures { result.now ≡ either_of form composed.now decomposed.now }
 {
     match form {
-        Form::Nfc | Form::Nfkc => &COMPOSED_TRIPLES,
-        Form::Nfd | Form::Nfkd => &DECOMPOSED_TRIPLES,
+        Form::Nfc | Form::Nfkc => composed,
+        Form::Nfd | Form::Nfkd => decomposed,
     }
 }

@@ -1,18 +1,16 @@
 ghost use Rattle.std.specs.Prelude.{◌≡◌, ◌≤◌, ◌+◌, drop, length, slice_index, map, IfSome, IfOk, IfErr};
 ghost use Rattle.nf_lanes.specs.Lanes.{places};
 ghost use Rattle.nf_span.specs.Leads.{lead_bits};
-ghost use Rattle.nf_span.specs.Closer.{IsOfForm};
 ghost use Rattle.nf_span.specs.Window.{AreLooks, IsAhead, IsPlainFront, IsWindow};
 
 use crate::bytes::by_bytes;
-use crate::closer::{pairs_of, triples_of};
+use crate::closer::{family_of, is_asked, pairs_of};
 use crate::kana::kana_of;
 use crate::leads::{ROWS, columns};
-use crate::letters::letters_of;
 use crate::wide::wide_of;
 use crate::window::Window;
 use nf_forms::Form;
-use nf_lanes::{LANES, Triples, bits, bits_of_either, byte_sets, pair_sets, triple_sets};
+use nf_lanes::{LANES, bits, bits_of_either, byte_sets, left_after, pair_sets};
 use std::simd::u8x16;
 
 /// The bytes that are looked at together, and the two after the last of them.
@@ -104,32 +102,31 @@ fn window(form: Form, bytes: &[u8], at: usize, is_near: bool) -> Window
         return leads;
     }
     Window {
-        looks: asked_looks(form, lead, bytes, at),
+        looks: asked_looks(form, lead, leads.looks, bytes, at),
         after,
     }
 }
 
 /// A bit for each byte from `at` on, the lowest for the first: whether a character that begins with it has to be looked up, where
-/// what stands after lead bytes is asked, for the sake of one: E2 and E3, of symbols and kana, EF, of fullwidth letters, and E1
-/// have sets of their own. Each copy has its tables at hand, but that of E1 and the others.
+/// what stands after lead bytes is asked, for the sake of one; `looks` are those as far as lead bytes tell. What is asked of
+/// symbols, kana and fullwidth letters has the tables of the form at hand.
 #[inline(always)]
-fn asked_looks(form: Form, lead: u8, bytes: &[u8], at: usize) -> u64
+fn asked_looks(form: Form, lead: u8, looks: u64, bytes: &[u8], at: usize) -> u64
     requires room { at + 18 ≤ length bytes.now }
+    requires looks { AreLooks form bytes.now at looks }
     ensures { AreLooks form bytes.now at result }
 {
+    if lead < 0xD0 {
+        return looks;
+    }
+    if lead < 0xE0 {
+        return pair_looks(form, bytes, at);
+    }
     match lead {
-        0xD0..=0xDF => pair_looks(form, bytes, at),
-        0xE2 | 0xE3 => triple_looks(form, kana_of(form), bytes, at),
-        0xEF => triple_looks(form, wide_of(form), bytes, at),
-        0xE0..=0xEE => {
-            let triples = if lead == 0xE1 {
-                letters_of(form)
-            } else {
-                triples_of(form)
-            };
-            triple_looks(form, triples, bytes, at)
-        }
-        _ => lead_looks(form, bytes, at),
+        0xE2 | 0xEF => looks & left_after(lead, wide_of(form), bytes, at),
+        0xE3 => looks & left_after(lead, kana_of(form), bytes, at),
+        _ if is_asked(lead) => looks & left_after(lead, family_of(form, lead), bytes, at),
+        _ => looks,
     }
 }
 
@@ -150,17 +147,6 @@ fn pair_looks(form: Form, bytes: &[u8], at: usize) -> u64
 {
     let pairs = pair_sets(pairs_of(form), bytes, at);
     bits_of_either(pairs, leads(form, bytes, at), 13)
-}
-
-/// The same, where a lead byte from E0 to EF and the two bytes after it are asked, by sets of the form.
-#[inline(always)]
-fn triple_looks(form: Form, triples: &Triples, bytes: &[u8], at: usize) -> u64
-    requires room { at + 18 ≤ length bytes.now }
-    requires triples { IsOfForm form triples.now }
-    ensures { AreLooks form bytes.now at result }
-{
-    let triples = triple_sets(triples, bytes, at);
-    bits_of_either(triples, leads(form, bytes, at), 11)
 }
 
 /// The rows in which the byte at each place from `at` on begins a character that has to be looked up.

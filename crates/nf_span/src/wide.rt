@@ -1,77 +1,45 @@
-//! What the bytes after EF tell: of fullwidth letters and punctuation, of the presentation forms of Arabic, and of U+FFFD; and in
-//! NFC those after E2: of punctuation, arrows, and signs of mathematics.
+//! What the two bytes after E2 or EF tell: of punctuation and symbols, and of presentation forms and fullwidth letters.
 
 ghost use Rattle.std.specs.Prelude.{◌≡◌};
 ghost use Rattle.nf_span.specs.Closer.{wide_of};
 
 use nf_forms::Form;
-use nf_lanes::{Pairs, Triples};
+use nf_lanes::Pairs;
 
-// The last set of each, in NFC the sixth, is of the other lead bytes that tell nothing, before any bytes.
-
-// In NFC: E2 80 before 80 and 81, E2 with a second byte of 8, A or B and 3, 4, 5, 7, B or C before 90 to BF; E3 80 before AA to
-// AF, E3 82 before 99 and 9A; EF before A4 to AD, EF B8 before A0 to AF, EF BE before 9E and 9F.
-pub(crate) static NFC_WIDE: Triples = Triples {
-    pairs: Pairs {
-        first_high: [0, 0, 0, 0, 0, 0, 0, 0, 0, 0, 0, 0, 0, 0, 255, 0],
-        first_low: [32, 32, 192, 3, 0, 0, 0, 0, 0, 0, 32, 0, 0, 0, 0, 28],
-        next_high: [
-            32, 32, 32, 32, 32, 32, 32, 32, 227, 32, 100, 120, 32, 32, 32, 32,
-        ],
-        next_low: [
-            161, 32, 34, 96, 100, 100, 36, 100, 44, 36, 36, 100, 100, 36, 48, 32,
-        ],
-    },
-    last_high: [
-        36, 36, 36, 36, 36, 36, 36, 36, 164, 118, 109, 100, 36, 36, 36, 36,
-    ],
-    last_low: [
-        236, 236, 108, 108, 108, 108, 108, 108, 108, 110, 111, 109, 109, 109, 125, 125,
+static NFC_WIDE: Pairs = Pairs {
+    first_high: [0, 0, 0, 0, 0, 0, 0, 0, 134, 0, 80, 40, 0, 0, 0, 0],
+    first_low: [3, 1, 0, 164, 85, 89, 80, 97, 113, 80, 65, 80, 84, 16, 8, 0],
+    next_high: [0, 0, 0, 0, 0, 0, 0, 0, 83, 201, 228, 232, 0, 0, 0, 0],
+    next_low: [
+        242, 243, 225, 240, 241, 224, 245, 240, 240, 244, 244, 245, 241, 240, 248, 232,
     ],
 };
 
-// In NFD: E3 80 before AA to AF, E3 before 81 to 83; of EF the same.
-static NFD_WIDE: Triples = Triples {
-    pairs: Pairs {
-        first_high: [0, 0, 0, 0, 0, 0, 0, 0, 0, 0, 0, 0, 0, 0, 63, 0],
-        first_low: [32, 32, 32, 3, 0, 0, 0, 0, 0, 0, 32, 32, 32, 32, 0, 28],
-        next_high: [
-            32, 32, 32, 32, 32, 32, 32, 32, 35, 32, 36, 56, 32, 32, 32, 32,
-        ],
-        next_low: [
-            33, 34, 34, 34, 36, 36, 36, 36, 44, 36, 36, 36, 36, 36, 48, 32,
-        ],
-    },
-    last_high: [
-        38, 38, 38, 38, 38, 38, 38, 38, 38, 54, 47, 38, 38, 38, 38, 38,
+static NFD_WIDE: Pairs = Pairs {
+    first_high: [0, 0, 0, 0, 0, 0, 0, 0, 45, 0, 128, 82, 0, 0, 0, 0],
+    first_low: [
+        8, 0, 0, 101, 129, 192, 129, 240, 240, 172, 168, 161, 129, 128, 2, 0,
     ],
-    last_low: [
-        46, 46, 46, 46, 46, 46, 46, 46, 46, 46, 47, 47, 47, 47, 63, 63,
+    next_high: [0, 0, 0, 0, 0, 0, 0, 0, 168, 135, 245, 212, 0, 0, 0, 0],
+    next_low: [
+        221, 221, 180, 145, 180, 156, 177, 156, 156, 181, 145, 145, 180, 176, 179, 242,
     ],
 };
 
-// In the compatibility forms: EF before A4 to AF, B0 to B7 and B9 to BE, EF B8 before 90 to BF, EF BF before 80 to AF.
-static COMPATIBILITY_WIDE: Triples = Triples {
-    pairs: Pairs {
-        first_high: [0, 0, 0, 0, 0, 0, 0, 0, 0, 0, 0, 0, 0, 0, 31, 0],
-        first_low: [16, 16, 16, 16, 0, 0, 0, 0, 0, 0, 16, 16, 16, 16, 0, 15],
-        next_high: [
-            16, 16, 16, 16, 16, 16, 16, 16, 16, 16, 17, 30, 16, 16, 16, 16,
-        ],
-        next_low: [
-            18, 18, 18, 18, 19, 19, 19, 19, 21, 19, 19, 19, 19, 19, 19, 25,
-        ],
-    },
-    last_high: [
-        19, 19, 19, 19, 19, 19, 19, 19, 27, 31, 31, 23, 19, 19, 19, 19,
+// In the compatibility forms.
+static COMPATIBILITY_WIDE: Pairs = Pairs {
+    first_high: [0, 0, 0, 0, 0, 0, 0, 0, 119, 8, 129, 168, 0, 0, 0, 0],
+    first_low: [
+        178, 58, 104, 88, 215, 242, 165, 129, 145, 134, 134, 132, 132, 128, 128, 128,
     ],
-    last_low: [
-        31, 31, 31, 31, 31, 31, 31, 31, 31, 31, 31, 31, 31, 31, 31, 31,
+    next_high: [0, 0, 0, 0, 0, 0, 0, 0, 203, 232, 220, 154, 0, 0, 0, 0],
+    next_low: [
+        222, 238, 206, 206, 219, 218, 218, 234, 202, 207, 238, 252, 221, 221, 221, 189,
     ],
 };
 
 #[inline(always)]
-pub(crate) fn wide_of(form: Form) -> &'static Triples
+pub(crate) fn wide_of(form: Form) -> &'static Pairs
     ensures { result.now ≡ wide_of form }
 {
     match form {
