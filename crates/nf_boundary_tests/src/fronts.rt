@@ -244,13 +244,14 @@ fn decomposed(rt: HostRuntime) -> Result<(), Fail> {
             "e\u{301}",
             "abcdefghijklmnopqrstuvwxyzabcdefghijklmnopqrstuvwxyzabcdefghijkl\u{E9}s, et puis",
         ),
-        // A character of which bytes do not tell that it stays.
+        // A character of which bytes tell that it stays, and one of which they do not.
         (
             "",
-            "\u{E9}",
-            "e\u{301}",
-            "\u{2019}cole\u{E9} et puis encore",
+            "\u{E9}\u{2019}cole\u{E9}",
+            "e\u{301}\u{2019}colee\u{301}",
+            " et puis encore",
         ),
+        ("", "\u{E9}", "e\u{301}", "\u{3C0}cole\u{E9} et puis encore"),
     ];
     check(&rt, rt.alloc(), Form::Nfd, &fronts)?;
     check(&rt, rt.alloc(), Form::Nfkd, &fronts)?;
