@@ -1,8 +1,12 @@
 -- Pairs of bytes of UTF-8 (The Unicode Standard, section 3.9, Table 3-6) at which a text is looked up.
-use Rattle.std.specs.Prelude.{◌≡◌, ℕ, ◌+◌, Bool, false, not, ◌&&◌, ◌==◌, List, slice_index, bit_or, bit_xor}
+use Rattle.std.specs.Prelude.{◌≡◌, ℕ, ◌+◌, Bool, false, not, ◌&&◌, ◌||◌, ◌==◌, nat_le, List, slice_index, bit_or, bit_xor}
 use Rattle.nf_lanes.specs.Sets.{pair_sets}
 use Rattle.nf_lanes.specs.declared.sets.Pairs.{Pairs}
 use Rattle.nf_lanes.specs.declared.looks.Looks.{Looks}
+
+-- the two bytes begin a character below U+0380 or from U+1E00 to U+2FFF
+abbrev pub is_latin : ℕ → ℕ → Bool
+is_latin lead next = not (nat_le 0xCE lead) || (lead == 0xE2 || (lead == 0xE1 && nat_le 0xB8 next))
 
 -- the pair is in a set of the family
 abbrev pub is_in : Pairs → ℕ → ℕ → Bool

@@ -4,14 +4,14 @@ ghost use Rattle.std.specs.Prelude.{◌≡◌, ◌<◌, ◌≤◌, ◌+◌, ◌�
 ghost use Rattle.std.specs.Int.{bit_at};
 ghost use Rattle.nf_lanes.specs.Scripts.{IsToldInScript};
 ghost use Rattle.nf_lanes.specs.Lanes.{bits_at};
-ghost use Rattle.nf_lanes.specs.Looks.{is_in, finds, at_pair, left_after, NoneFound, NoneAfter};
+ghost use Rattle.nf_lanes.specs.Looks.{is_in, is_latin, finds, at_pair, left_after, NoneFound, NoneAfter};
 
 use crate::lanes::{at_least, bits, bits_of_64, none_of, of_64};
 use crate::scripts::{Scripts, found_in_script};
 use crate::sets::{Pairs, pair_sets};
 use std::simd::u8x16;
 
-/// Of so few characters no pair is asked: in Latin most of those that are not ASCII have to be looked up.
+/// Of so few characters no pair is asked where the first is Latin: of these most that are not ASCII have to be looked up.
 const MIN_LEADS: u32 = 14;
 
 /// Of so few that the first family finds the second is not asked.
@@ -51,8 +51,8 @@ pub fn found_by_both(first: &Pairs, second: &Pairs, least: u8, bytes: &[u8], at:
 }
 
 /// A bit for each of 63 bytes from `at` on, the lowest for the first: of those that begin more bytes than one, each at which a
-/// pair has to be looked up, or at the byte after it, is set; of a few all are, and all that the first family finds where those are
-/// few; and where three of three bytes stand in a row, as in Thai and in kana, or three of two bytes, as in Greek, only those that
+/// pair has to be looked up, or at the byte after it, is set; of a few of Latin all are, and all that the first family finds where
+/// those are few; and where three of three bytes stand in a row, as in Thai and in kana, or three of two bytes, as in Greek, only those that
 /// the families of scripts find, too.
 #[inline(always)]
 pub fn found_leads(looks: &Looks, scripts: &Scripts, bytes: &[u8], at: usize) -> u64
@@ -62,7 +62,8 @@ pub fn found_leads(looks: &Looks, scripts: &Scripts, bytes: &[u8], at: usize) ->
         → NoneFound (finds looks.now) bytes.now (at + k) ⊎ IsToldInScript scripts.now bytes.now (at + k) }
 {
     let leads = high_bits(0xC0, bytes, at);
-    if leads.count_ones() < MIN_LEADS {
+    let first = at + leads.trailing_zeros() as usize;
+    if leads.count_ones() < MIN_LEADS && is_latin(bytes[first], bytes[first + 1]) {
         return leads;
     }
     let firsts = family_bits(&looks.first, bytes, at);
@@ -76,6 +77,15 @@ pub fn found_leads(looks: &Looks, scripts: &Scripts, bytes: &[u8], at: usize) ->
         return found_in_script(found, scripts, bytes, at);
     }
     found
+}
+
+/// Whether a character that begins with these two bytes is below U+0380 or from U+1E00 to U+2FFF, where letters of Latin are, and
+/// their marks and punctuation.
+#[inline(always)]
+fn is_latin(lead: u8, next: u8) -> bool
+    ensures { result ≡ is_latin lead next }
+{
+    lead < 0xCE || lead == 0xE2 || (lead == 0xE1 && next >= 0xB8)
 }
 
 /// Whether characters of so many bytes stand in a row, three of those that have a bit.
