@@ -4,7 +4,7 @@ ghost use Rattle.std.specs.Prelude.{◌≡◌, ◌<◌, ◌≤◌, ◌+◌, ◌�
 ghost use Rattle.std.specs.Int.{bit_at};
 ghost use Rattle.nf_lanes.specs.Scripts.{IsToldInScript};
 ghost use Rattle.nf_lanes.specs.Lanes.{bits_at};
-ghost use Rattle.nf_lanes.specs.Looks.{is_in, is_latin, finds, at_pair, left_after, NoneFound, NoneAfter};
+ghost use Rattle.nf_lanes.specs.Looks.{is_in, is_latin, is_of_script, finds, at_pair, left_after, NoneFound, NoneAfter};
 
 use crate::lanes::{at_least, bits, bits_of_64, none_of, of_64};
 use crate::scripts::{Scripts, found_in_script};
@@ -50,10 +50,10 @@ pub fn found_by_both(first: &Pairs, second: &Pairs, least: u8, bytes: &[u8], at:
     found_by_pairs(found, second, bytes, at)
 }
 
-/// A bit for each of 63 bytes from `at` on, the lowest for the first: of those that begin more bytes than one, each at which a
-/// pair has to be looked up, or at the byte after it, is set; of a few of Latin all are, and all that the first family finds where
-/// those are few; and where three of three bytes stand in a row, as in Thai and in kana, or three of two bytes, as in Greek, only those that
-/// the families of scripts find, too.
+/// A bit for each of 63 bytes from `at` on, the lowest for the first: of those that begin more bytes than one, each that has to be
+/// looked up. Of a few of Latin all are set. Where the first is of a script whose family tells nearly all, that is asked alone;
+/// else pairs are: all are set that the first family finds where those are few, else those that both find, and where three of
+/// three bytes stand in a row, as in kana, or of two, only those that the families of scripts find, too.
 #[inline(always)]
 pub fn found_leads(looks: &Looks, scripts: &Scripts, bytes: &[u8], at: usize) -> u64
     requires room { at + 65 < length bytes.now }
@@ -63,20 +63,37 @@ pub fn found_leads(looks: &Looks, scripts: &Scripts, bytes: &[u8], at: usize) ->
 {
     let leads = high_bits(0xC0, bytes, at);
     let first = at + leads.trailing_zeros() as usize;
-    if leads.count_ones() < MIN_LEADS && is_latin(bytes[first], bytes[first + 1]) {
+    let (lead, next) = (bytes[first], bytes[first + 1]);
+    if leads.count_ones() < MIN_LEADS && is_latin(lead, next) {
         return leads;
     }
+    let asked = if is_of_script(lead, next) {
+        leads
+    } else {
+        let found = found_by_looks(leads, looks, bytes, at);
+        if !(stand_in_row(found, 3) || stand_in_row(found, 2)) {
+            return found;
+        }
+        found
+    };
+    found_in_script(asked, scripts, bytes, at)
+}
+
+/// Of the bits of 63 bytes from `at` on, the lowest for the first, those that the first family finds, and where these are not few
+/// the second: the pair that the byte begins, or the next, is in both.
+#[inline(always)]
+fn found_by_looks(found: u64, looks: &Looks, bytes: &[u8], at: usize) -> u64
+    requires room { at + 64 < length bytes.now }
+    ensures fewer { (k : ℕ) → bit_at result k ≡ 1 → bit_at found k ≡ 1 }
+    ensures told { (k : ℕ) → k < 63 → bit_at found k ≡ 1 → bit_at result k ≡ 0 → NoneFound (finds looks.now) bytes.now (at + k) }
+{
     let firsts = family_bits(&looks.first, bytes, at);
-    let found = leads & (firsts | (firsts >> 1));
-    if found.count_ones() < MIN_FOUND {
-        return found;
+    let left = found & (firsts | (firsts >> 1));
+    if left.count_ones() < MIN_FOUND {
+        return left;
     }
-    let pairs = firsts & family_bits(&looks.second, bytes, at);
-    let found = leads & (pairs | (pairs >> 1));
-    if stand_in_row(found, 3) || stand_in_row(found, 2) {
-        return found_in_script(found, scripts, bytes, at);
-    }
-    found
+    let both = firsts & family_bits(&looks.second, bytes, at);
+    found & (both | (both >> 1))
 }
 
 /// Whether a character that begins with these two bytes is below U+0380 or from U+1E00 to U+2FFF, where letters of Latin are, and
@@ -86,6 +103,16 @@ fn is_latin(lead: u8, next: u8) -> bool
     ensures { result ≡ is_latin lead next }
 {
     lead < 0xCE || lead == 0xE2 || (lead == 0xE1 && next >= 0xB8)
+}
+
+/// Whether a character that begins with these two bytes is of Greek or Armenian, of a script of U+0800 to U+0FFF, or of Burmese,
+/// Georgian, Ethiopic or Cherokee, of which the families of scripts tell nearly all.
+#[inline(always)]
+fn is_of_script(lead: u8, next: u8) -> bool
+    ensures { result ≡ is_of_script lead next }
+{
+    matches!(lead, 0xCE | 0xCF | 0xD4 | 0xD5 | 0xE0)
+        || (lead == 0xE1 && matches!(next, 0x80..=0x83 | 0x88..=0x8F))
 }
 
 /// Whether characters of so many bytes stand in a row, three of those that have a bit.
