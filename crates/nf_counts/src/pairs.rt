@@ -2,8 +2,8 @@
 //! assigned starter, and its compatibility decomposition has no non-starter.
 //!
 //! Most pairs are a lead byte and its second. The last two bytes are asked where a block of 64 code points is much used and few
-//! of it are looked up: E2 80 and E3 80, punctuation; EF BC, fullwidth letters; E0 A4 and E0 A5, Devanagari. What is found of kana,
-//! Greek and other scripts is asked again (`scripts`).
+//! of it are looked up: E2 80 and E3 80, punctuation; EF BC, fullwidth letters; E0 A4 and E0 A5, Devanagari. Of text that begins with
+//! a character from U+0380 to U+1FFF other families are asked, and kana that are found are asked again (`scripts`).
 
 use nf_lanes::{Looks, Pairs};
 

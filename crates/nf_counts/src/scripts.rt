@@ -1,19 +1,18 @@
-//! The two bytes after a lead byte at which a character is looked up, where `pairs` finds all or most characters of a script. The
-//! sets were found by a search: each character that has to be looked up is in one, and few of those that stand most in the
-//! languages written so.
+//! Characters of two bytes, and the two bytes after a lead byte, at which a character is looked up. The sets were found by a search:
+//! each character that has to be looked up is in one, and few of those that stand most in the languages written so.
 
 use nf_lanes::{Pairs, Scripts};
 
 pub(crate) static SCRIPTS: Scripts = Scripts {
-    // Of two bytes all are found but letters of Greek and Armenian that have no mark, and some others.
+    // Of two bytes: letters of Greek, Cyrillic, Armenian, Hebrew and Arabic that have no mark are told.
     narrow: Pairs {
-        first_high: [0, 0, 0, 0, 0, 0, 0, 0, 0, 0, 0, 0, 246, 190, 1, 1],
+        first_high: [0, 0, 0, 0, 0, 0, 0, 0, 0, 0, 0, 0, 222, 191, 119, 217],
         first_low: [
-            235, 57, 223, 251, 247, 69, 205, 239, 123, 153, 157, 223, 219, 215, 187, 141,
+            212, 232, 107, 254, 90, 68, 106, 81, 76, 240, 199, 105, 77, 115, 62, 57,
         ],
-        next_high: [0, 0, 0, 0, 0, 0, 0, 0, 227, 109, 217, 105, 0, 0, 0, 0],
+        next_high: [0, 0, 0, 0, 0, 0, 0, 0, 85, 238, 120, 227, 0, 0, 0, 0],
         next_low: [
-            107, 75, 91, 79, 79, 75, 75, 79, 79, 75, 219, 219, 217, 219, 219, 221,
+            103, 101, 109, 109, 109, 109, 109, 101, 101, 229, 117, 113, 113, 113, 113, 113,
         ],
     },
     // The first set of these three, and in the next two the second, is of what the others tell.
@@ -48,13 +47,13 @@ pub(crate) static SCRIPTS: Scripts = Scripts {
         ],
     },
     letters: Pairs {
-        first_high: [0, 0, 0, 0, 0, 0, 0, 0, 214, 9, 168, 168, 0, 0, 0, 0],
+        first_high: [0, 0, 0, 0, 0, 0, 0, 0, 94, 160, 175, 239, 0, 0, 0, 0],
         first_low: [
-            49, 45, 164, 176, 140, 106, 59, 55, 33, 99, 185, 105, 43, 45, 166, 238,
+            35, 3, 231, 49, 33, 161, 33, 129, 33, 97, 179, 43, 169, 175, 69, 39,
         ],
-        next_high: [0, 0, 0, 0, 0, 0, 0, 0, 225, 111, 40, 189, 0, 0, 0, 0],
+        next_high: [0, 0, 0, 0, 0, 0, 0, 0, 89, 237, 161, 183, 0, 0, 0, 0],
         next_low: [
-            34, 231, 43, 160, 49, 43, 231, 247, 169, 250, 189, 172, 174, 173, 236, 236,
+            141, 61, 105, 129, 141, 45, 221, 235, 53, 243, 115, 181, 117, 229, 117, 251,
         ],
     },
     kana: Pairs {

@@ -8,11 +8,9 @@ use Rattle.nf_lanes.specs.declared.looks.Looks.{Looks}
 abbrev pub is_latin : ℕ → ℕ → Bool
 is_latin lead next = not (nat_le 0xCE lead) || (lead == 0xE2 || (lead == 0xE1 && nat_le 0xB8 next))
 
--- they begin one of Greek or Armenian, or one from U+0800 to U+10FF or from U+1200 to U+13FF
-abbrev pub is_of_script : ℕ → ℕ → Bool
-is_of_script lead next =
-    ((nat_le 0xCE lead && nat_le lead 0xCF) || ((nat_le 0xD4 lead && nat_le lead 0xD5) || lead == 0xE0))
-    || (lead == 0xE1 && ((nat_le 0x80 next && nat_le next 0x83) || (nat_le 0x88 next && nat_le next 0x8F)))
+-- the byte begins one from U+0380 to U+1FFF
+abbrev pub is_of_script : ℕ → Bool
+is_of_script lead = nat_le 0xCE lead && nat_le lead 0xE1
 
 -- the pair is in a set of the family
 abbrev pub is_in : Pairs → ℕ → ℕ → Bool

@@ -53,7 +53,7 @@ pub fn found_by_both(first: &Pairs, second: &Pairs, least: u8, bytes: &[u8], at:
 /// A bit for each of 63 bytes from `at` on, the lowest for the first: of those that begin more bytes than one, each that has to be
 /// looked up. Of a few of Latin all are set. Where the first is of a script whose family tells nearly all, that is asked alone;
 /// else pairs are: all are set that the first family finds where those are few, else those that both find, and where three of
-/// three bytes stand in a row, as in kana, or of two, only those that the families of scripts find, too.
+/// three bytes stand in a row, as in kana, only those that the families of scripts find, too.
 #[inline(always)]
 pub fn found_leads(looks: &Looks, scripts: &Scripts, bytes: &[u8], at: usize) -> u64
     requires room { at + 65 < length bytes.now }
@@ -63,15 +63,15 @@ pub fn found_leads(looks: &Looks, scripts: &Scripts, bytes: &[u8], at: usize) ->
 {
     let leads = high_bits(0xC0, bytes, at);
     let first = at + leads.trailing_zeros() as usize;
-    let (lead, next) = (bytes[first], bytes[first + 1]);
-    if leads.count_ones() < MIN_LEADS && is_latin(lead, next) {
+    let lead = bytes[first];
+    if leads.count_ones() < MIN_LEADS && is_latin(lead, bytes[first + 1]) {
         return leads;
     }
-    let asked = if is_of_script(lead, next) {
+    let asked = if is_of_script(lead) {
         leads
     } else {
         let found = found_by_looks(leads, looks, bytes, at);
-        if !(stand_in_row(found, 3) || stand_in_row(found, 2)) {
+        if found.count_ones() < MIN_FOUND || !stand_in_row(found) {
             return found;
         }
         found
@@ -102,26 +102,23 @@ fn found_by_looks(found: u64, looks: &Looks, bytes: &[u8], at: usize) -> u64
 fn is_latin(lead: u8, next: u8) -> bool
     ensures { result ≡ is_latin lead next }
 {
-    lead < 0xCE || lead == 0xE2 || (lead == 0xE1 && next >= 0xB8)
+    matches!(lead, 0x00..=0xCD | 0xE2) || (lead == 0xE1 && next >= 0xB8)
 }
 
-/// Whether a character that begins with these two bytes is of Greek or Armenian, of a script of U+0800 to U+0FFF, or of Burmese,
-/// Georgian, Ethiopic or Cherokee, of which the families of scripts tell nearly all.
+/// Whether a character that begins with this byte is from U+0380 to U+1FFF, where the families of scripts tell of most.
 #[inline(always)]
-fn is_of_script(lead: u8, next: u8) -> bool
-    ensures { result ≡ is_of_script lead next }
+fn is_of_script(lead: u8) -> bool
+    ensures { result ≡ is_of_script lead }
 {
-    matches!(lead, 0xCE | 0xCF | 0xD4 | 0xD5 | 0xE0)
-        || (lead == 0xE1 && matches!(next, 0x80..=0x83 | 0x88..=0x8F))
+    matches!(lead, 0xCE..=0xE1)
 }
 
-/// Whether characters of so many bytes stand in a row, three of those that have a bit.
+/// Whether three characters of three bytes that have a bit stand in a row.
 #[inline(always)]
-fn stand_in_row(found: u64, len: u32) -> bool
-    requires { len < 32 }
-    ensures { IsTrue result ↔ (0 < bit_and (bit_and found (found / 2 ^ len)) (found / 2 ^ (2 * len))) }
+fn stand_in_row(found: u64) -> bool
+    ensures { IsTrue result ↔ (0 < bit_and (bit_and found (found / 8)) (found / 64)) }
 {
-    found & (found >> len) & (found >> (2 * len)) != 0
+    found & (found >> 3) & (found >> 6) != 0
 }
 
 /// Of the bits of 63 bytes from `at` on, the lowest for the first, those of which a pair is in the family: the pair that the byte
