@@ -6,13 +6,13 @@ use nf_lanes::{Pairs, Scripts};
 pub(crate) static SCRIPTS: Scripts = Scripts {
     // Of two bytes: letters of Greek, Cyrillic, Armenian, Hebrew and Arabic that have no mark are told.
     narrow: Pairs {
-        first_high: [0, 0, 0, 0, 0, 0, 0, 0, 0, 0, 0, 0, 222, 191, 119, 217],
+        first_high: [0, 0, 0, 0, 0, 0, 0, 0, 0, 0, 0, 0, 214, 191, 205, 218],
         first_low: [
-            212, 232, 107, 254, 90, 68, 106, 81, 76, 240, 199, 105, 77, 115, 62, 57,
+            228, 120, 225, 233, 198, 68, 200, 193, 84, 200, 196, 73, 111, 81, 159, 155,
         ],
-        next_high: [0, 0, 0, 0, 0, 0, 0, 0, 85, 238, 120, 227, 0, 0, 0, 0],
+        next_high: [0, 0, 0, 0, 0, 0, 0, 0, 199, 92, 218, 107, 0, 0, 0, 0],
         next_low: [
-            103, 101, 109, 109, 109, 109, 109, 101, 101, 229, 117, 113, 113, 113, 113, 113,
+            79, 77, 93, 93, 93, 93, 93, 77, 77, 109, 79, 201, 201, 201, 201, 201,
         ],
     },
     // The first set of these three, and in the next two the second, is of what the others tell.
