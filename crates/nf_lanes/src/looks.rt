@@ -51,7 +51,7 @@ pub fn found_by_both(first: &Pairs, second: &Pairs, least: u8, bytes: &[u8], at:
 }
 
 /// A bit for each of 63 bytes from `at` on, the lowest for the first: of those that begin more bytes than one, each that has to be
-/// looked up. Of a few of Latin all are set. Where the first is of a script whose family tells nearly all, that is asked alone;
+/// looked up. Of a few of Latin all are set. Where the first is of a script that has a family, that is asked alone;
 /// else pairs are: all are set that the first family finds where those are few, else those that both find, and where three of
 /// three bytes stand in a row, as in kana, only those that the families of scripts find, too.
 #[inline(always)]
