@@ -19,14 +19,13 @@ use Rattle.nf_forms.specs.Properties.{Properties, is_nonstarter}
 use Rattle.nf_forms.specs.Sound.{is_sound}
 use Rattle.nf_forms.specs.declared.form.Form.TheVariants.{Nfkd}
 use Rattle.nf_forms.specs.Ucd.{ucd}
-use Rattle.nf_lanes.specs.Looks.{finds}
+use Rattle.nf_lanes.specs.Looks.{is_in}
 use Rattle.nf_lanes.proofs.LooksLemmas.{Known, Tells, TellsOf, ScriptsTell, by_pairs, by_scripts, either, told_front}
 use Rattle.nf_counts.specs.Counts.{HasValue, IsValued, unassigned_in}
 use Rattle.nf_counts.specs.Piece.{IsPiece}
 use Rattle.nf_counts.specs.declared.piece.Piece.{Piece}
 use Rattle.nf_counts.specs.Window.{AreTold, IsTold}
-use Rattle.nf_counts.specs.declared.pairs.TheConstants.{LOOKS}
-use Rattle.nf_counts.specs.declared.scripts.TheConstants.{SCRIPTS}
+use Rattle.nf_counts.specs.declared.scripts.TheConstants.{SCRIPTS, WIDE}
 use Rattle.nf_counts.specs.declared.rows.TheConstants.{INDEX, WORDS}
 use Rattle.nf_counts.proofs.Told.{told, told-ascii, told-valued, told-block}
 
@@ -73,8 +72,8 @@ module _ (sound : (c : ℕ) → is_sound ucd c ≡ true) where
     is_low = omega arith;
   }
 
-  -- so is a character that the two families do not find, or one of a script
-  of_pairs : Tells _ _ _ known (finds LOOKS)
+  -- so is a character that a family does not find
+  of_pairs : Tells _ _ _ known (is_in WIDE)
   unfolding all_below block_value known
   of_pairs = record { of_two = refl; of_three = refl; of_four = refl }
 
@@ -83,7 +82,7 @@ module _ (sound : (c : ℕ) → is_sound ucd c ≡ true) where
   of_scripts = record { narrow = record { of_two = refl; of_three = refl; of_four = refl }; indic = refl; southern = refl; thai = refl; letters = refl; kana = refl }
 
   tells : TellsOf 0x80 (λ c. IsValued ucd c 0) IsTold
-  tells = either _ _ _ _ (by_pairs _ _ _ known (finds LOOKS) of_pairs) (by_scripts _ _ _ known SCRIPTS of_scripts)
+  tells = either _ _ _ _ (by_pairs _ _ _ known (is_in WIDE) of_pairs) (by_scripts _ _ _ known SCRIPTS of_scripts)
 
   -- characters of which none is looked up are a piece of the value 0
   pub plain_piece : (text : List ℕ) (len : ℕ) → IsUtf8 text → IsCharBoundary text len → 0 < len → AreTold text 0 len → IsPiece ucd text record { len = len; value = 0 }

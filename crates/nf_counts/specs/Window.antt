@@ -1,15 +1,14 @@
 -- Which characters of a text are looked up.
 use Rattle.std.specs.Prelude.{◌≡◌, ℕ, ◌+◌, ◌<◌, ◌≤◌, ◌⊎◌, List, slice_index}
 use Rattle.std.specs.Int.{bit_at}
-use Rattle.nf_lanes.specs.Looks.{finds, NoneFound}
+use Rattle.nf_lanes.specs.Looks.{is_in, NoneFound}
 use Rattle.nf_lanes.specs.Scripts.{IsToldInScript}
-use Rattle.nf_counts.specs.declared.pairs.TheConstants.{LOOKS}
-use Rattle.nf_counts.specs.declared.scripts.TheConstants.{SCRIPTS}
+use Rattle.nf_counts.specs.declared.scripts.TheConstants.{SCRIPTS, WIDE}
 use Rattle.nf_counts.specs.declared.window.Window.{Window}
 
--- the character that begins at k is not looked up: both families tell it, or one of a script
+-- the character that begins at k is not looked up: a family tells it
 abbrev pub IsTold : List ℕ → ℕ → Type 0
-IsTold text k = NoneFound (finds LOOKS) text k ⊎ IsToldInScript SCRIPTS text k
+IsTold text k = NoneFound (is_in WIDE) text k ⊎ IsToldInScript SCRIPTS text k
 
 -- of the characters that begin from one place on and before another none has more bytes than one and is looked up
 abbrev pub AreTold : List ℕ → ℕ → ℕ → Type 0

@@ -4,7 +4,6 @@
 
 mod counted;
 mod counts;
-mod pairs;
 mod piece;
 mod rows;
 mod scan;

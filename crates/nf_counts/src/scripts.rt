@@ -1,4 +1,5 @@
-//! Characters of two bytes, and the two bytes after a lead byte, at which a character is looked up. The sets were found by a search:
+//! Pairs of bytes, and the two bytes after a lead byte, at which a character is looked up; one that has none, but for what its last
+//! byte begins, is an assigned starter, and its compatibility decomposition has no non-starter. The sets were found by a search:
 //! each character that has to be looked up is in one, and few of those that stand most in the languages written so.
 
 use nf_lanes::{Pairs, Scripts};
@@ -66,4 +67,15 @@ pub(crate) static SCRIPTS: Scripts = Scripts {
             254, 164, 147, 228, 71, 208, 71, 148, 71, 180, 71, 68, 174, 132, 58, 64,
         ],
     },
+};
+
+/// Pairs of bytes that are asked of text that begins with none of these scripts: most are a lead byte and its second, of E2 and of
+/// E4 to EF, and the last two where a block of 64 code points is much used and few of it are looked up. All of four bytes are found.
+pub(crate) static WIDE: Pairs = Pairs {
+    first_high: [0, 0, 0, 0, 0, 0, 0, 0, 16, 0, 0, 36, 117, 67, 218, 255],
+    first_low: [218, 203, 193, 3, 1, 1, 1, 1, 1, 1, 136, 1, 33, 17, 205, 73],
+    next_high: [0, 0, 0, 0, 0, 0, 0, 0, 99, 213, 153, 71, 0, 0, 0, 0],
+    next_low: [
+        105, 75, 195, 203, 75, 73, 75, 75, 195, 201, 209, 249, 155, 155, 31, 221,
+    ],
 };

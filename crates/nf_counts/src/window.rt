@@ -1,7 +1,6 @@
 //! 63 bytes of a text at once: where characters begin that have to be looked up.
 
-use crate::pairs::LOOKS;
-use crate::scripts::SCRIPTS;
+use crate::scripts::{SCRIPTS, WIDE};
 use nf_lanes::found_leads;
 
 /// Places of a text that are still to be looked up.
@@ -25,7 +24,7 @@ impl Window {
     {
         Window {
             base,
-            found: found_leads(&LOOKS, &SCRIPTS, text.as_bytes(), base),
+            found: found_leads(&WIDE, &SCRIPTS, text.as_bytes(), base),
         }
     }
 

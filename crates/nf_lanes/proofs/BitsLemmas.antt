@@ -1,22 +1,16 @@
 -- What falls away of bits where a pair of bytes, or the next, is in no set.
-use Rattle.std.proofs.Common.{◌≡◌, ◌+◌, ◌<◌, ◌⊎◌, inl, inr, ⊎_elim, ℕ, List, Bool, false, cond, bit_and, bit_or, bit_xor, get_or, arith, ◌/◌}
+use Rattle.std.proofs.Common.{◌≡◌, ◌+◌, ◌<◌, ℕ, List, Bool, false, cond, bit_and, bit_or, bit_xor, get_or, arith, ◌/◌}
 use Rattle.std.specs.Int.{bit_at}
-use Rattle.std.proofs.str.Laws.{order}
 use Rattle.std.specs.Int.Bits.{xor_add_and}
 use Rattle.std.proofs.lemmas.Nat.{and_le_l, and_le_r, le_or_l, le_or_r}
 use Rattle.std.proofs.lemmas.Nat.Bits.{bit_at_and, bit_at_or, bit_at-lt, bit_at-suc}
-use Rattle.nf_lanes.specs.Looks.{at_pair, finds, is_in, left_after, NoneAfter, NoneFound}
+use Rattle.nf_lanes.specs.Looks.{at_pair, is_in, left_after, NoneAfter, NoneFound}
 use Rattle.nf_lanes.specs.Sets.{pair_sets}
 use Rattle.nf_lanes.specs.declared.sets.Pairs.{Pairs}
-use Rattle.nf_lanes.specs.declared.looks.Looks.{Looks}
 
 -- 64 bits, the lowest for the first place
 abbrev pub AreBits : ℕ → (ℕ → Bool) → ℕ → Type 0
 AreBits bits p at = (k : ℕ) → k < 64 → bit_at bits k ≡ cond (p (at + k)) 1 0
-
--- of the pairs that two families find
-pub found_by : (looks : Looks) (bytes : List ℕ) (at a b : ℕ) → AreBits a (at_pair (is_in looks.first) bytes) at → AreBits b (at_pair (is_in looks.second) bytes) at → AreBits (bit_and a b) (at_pair (finds looks) bytes) at
-found_by looks bytes at a b first second k within = grind (arith, bit_at_and a b k, first k, second k)
 
 pub narrower : (found others k : ℕ) → bit_at (bit_and found others) k ≡ 1 → bit_at found k ≡ 1
 narrower found others k one = grind (arith, bit_at_and found others k, bit_at-lt found k)
@@ -34,13 +28,3 @@ module _ (bytes : List ℕ) (at k : ℕ) (few : k < 63) where
   pub none_found : (test : ℕ → ℕ → Bool) (found pairs : ℕ) → AreBits pairs (at_pair test bytes) at → bit_at found k ≡ 1 → bit_at (bit_and found (bit_or pairs (pairs / 2))) k ≡ 0 → NoneFound test bytes (at + k)
   none_found test found pairs are one none =
       grind (arith, are k, are (k + 1), bit_at_and found (bit_or pairs (pairs / 2)) k, bit_at_or pairs (pairs / 2) k, bit_at-suc pairs k)
-
-  -- the same of two tests, one after the other
-  pub either_none : (first second : ℕ → ℕ → Bool) (found pairs others : ℕ) → AreBits pairs (at_pair first bytes) at → AreBits others (at_pair second bytes) at → bit_at found k ≡ 1
-      → bit_at (bit_and (bit_and found (bit_or pairs (pairs / 2))) (bit_or others (others / 2))) k ≡ 0 → NoneFound first bytes (at + k) ⊎ NoneFound second bytes (at + k)
-  either_none first second found pairs others are there one none =
-      let left = bit_and found (bit_or pairs (pairs / 2)) in
-      ⊎_elim
-      (λ zero. inl (none_found first found pairs are one (omega (arith, zero))))
-      (λ some. inr (none_found second left others there (omega (arith, some, bit_at-lt left k)) none))
-      (order (bit_at left k) 1)

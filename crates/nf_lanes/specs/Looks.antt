@@ -2,23 +2,14 @@
 use Rattle.std.specs.Prelude.{◌≡◌, ℕ, ◌+◌, Bool, false, not, ◌&&◌, ◌||◌, ◌==◌, nat_le, List, slice_index, bit_or, bit_xor}
 use Rattle.nf_lanes.specs.Sets.{pair_sets}
 use Rattle.nf_lanes.specs.declared.sets.Pairs.{Pairs}
-use Rattle.nf_lanes.specs.declared.looks.Looks.{Looks}
 
--- the two bytes begin a character below U+0380 or from U+1E00 to U+2FFF
-abbrev pub is_latin : ℕ → ℕ → Bool
-is_latin lead next = not (nat_le 0xCE lead) || (lead == 0xE2 || (lead == 0xE1 && nat_le 0xB8 next))
-
--- the byte begins one from U+0380 to U+1FFF
-abbrev pub is_of_script : ℕ → Bool
-is_of_script lead = nat_le 0xCE lead && nat_le lead 0xE1
+-- the two bytes begin a character from U+0380 to U+1DFF
+abbrev pub is_of_script : ℕ → ℕ → Bool
+is_of_script lead next = (nat_le 0xCE lead && nat_le lead 0xE0) || (lead == 0xE1 && not (nat_le 0xB8 next))
 
 -- the pair is in a set of the family
 abbrev pub is_in : Pairs → ℕ → ℕ → Bool
 is_in t byte next = not (pair_sets t byte next == 0)
-
--- a character that has them before its last byte, or at its end, is looked up
-abbrev pub finds : Looks → ℕ → ℕ → Bool
-finds t byte next = is_in t.first byte next && is_in t.second byte next
 
 -- what is so of the byte at k and the one after it
 abbrev pub at_pair : (ℕ → ℕ → Bool) → List ℕ → ℕ → Bool

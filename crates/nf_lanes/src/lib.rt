@@ -8,6 +8,6 @@ mod scripts;
 mod sets;
 
 pub use lanes::{LANES, bits, bits_of_either, none_of};
-pub use looks::{Looks, found_by_both, found_leads, left_after, none_found};
+pub use looks::{found_by_both, found_leads, left_after, none_found};
 pub use scripts::{Scripts, found_in_script};
 pub use sets::{Pairs, byte_sets, pair_sets};

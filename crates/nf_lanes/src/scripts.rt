@@ -31,6 +31,9 @@ pub fn found_in_script(found: u64, scripts: &Scripts, bytes: &[u8], at: usize) -
     ensures fewer { (k : ℕ) → bit_at result k ≡ 1 → bit_at found k ≡ 1 }
     ensures told { (k : ℕ) → k < 63 → bit_at found k ≡ 1 → bit_at result k ≡ 0 → IsToldInScript scripts.now bytes.now (at + k) }
 {
+    if found == 0 {
+        return 0;
+    }
     let first = at + found.trailing_zeros() as usize;
     let lead = bytes[first];
     if lead < 0xE0 {
