@@ -1,18 +1,19 @@
 """Measures text that a sender chose to be slow beside friendly text of the same script, and prints a Markdown table:
 
-    python3 bench/hostile.py [--corpora FOLDER] [PROGRAM]      (./nfstream of the repository where none is named)
+    python3 bench/hostile.py [--corpora FOLDER] [--assigned] [PROGRAM]      (./nfstream of the repository where none is named)
 
 Both take turns in one run. The first ratio is of the bytes read by second, the other of the bytes written, since a form may
 make a text many times longer. Where the first is below a quarter, both are named at the end, and the status is 1.
+With `--assigned` each text that has no unassigned character is read with that flag, and so is its friend.
 """
 
 import argparse
 import subprocess
 import sys
 import tempfile
-from dataclasses import dataclass
+from dataclasses import dataclass, replace
 from pathlib import Path
-from unicodedata import combining, normalize
+from unicodedata import category, combining, normalize
 
 from measure import FULL, Effort, Input, speeds
 from table import FORMS, cache, line, number
@@ -64,6 +65,10 @@ class Hostile:
 def is_stream_safe(text: str) -> bool:
     marks = "".join("m" if combining(c) else " " for c in normalize("NFKD", text))
     return "m" * 31 not in marks
+
+
+def is_assigned(data: bytes) -> bool:
+    return all(category(c) != "Cn" for c in data.decode(errors="ignore"))
 
 
 def is_text(data: bytes) -> bool:
@@ -126,6 +131,7 @@ HOSTILE = [
 def arguments() -> argparse.Namespace:
     parser = argparse.ArgumentParser(prog="hostile.py")
     parser.add_argument("--corpora", type=Path, default=cache(), metavar="FOLDER", help="where corpora.sh put the texts")
+    parser.add_argument("--assigned", action="store_true", help="read every text with --assigned")
     parser.add_argument("program", nargs="?", type=Path, default=Path(__file__).parent.parent / "nfstream")
     words = parser.parse_args()
     absent = missing(words.corpora, sorted({hostile.friend for hostile in HOSTILE}))
@@ -157,7 +163,8 @@ def main() -> int:
     line(["Hostile", "To", "MB/s", "Friendly", "MB/s", "Ratio, read", "Ratio, written"])
     line(["---", "---", "---:", "---", "---:", "---:", "---:"])
     slow = []
-    for hostile in HOSTILE:
+    rows = [replace(hostile, assigned=True) for hostile in HOSTILE if is_assigned(hostile.again)] if words.assigned else HOSTILE
+    for hostile in rows:
         for form in hostile.calls():
             state, text = hostile.friendly(real[hostile.friend], form)
             command = hostile.command(program, form)
@@ -169,7 +176,7 @@ def main() -> int:
             line([hostile.title, form.upper() if form in FORMS else f"`{form}`", number(mine), friend, number(other), f"{read:.2f}", f"{written:.2f}"])
             if read < BAR:
                 slow.append(f"{hostile.title}, {form.upper()}: {read:.2f} ({written:.2f})")
-    print(f"\n{len(slow)} of {sum(len(hostile.calls()) for hostile in HOSTILE)} below a quarter{': ' if slow else ''}{'; '.join(slow)}.")
+    print(f"\n{len(slow)} of {sum(len(hostile.calls()) for hostile in rows)} below a quarter{': ' if slow else ''}{'; '.join(slow)}.")
     return 1 if slow else 0
 
 
