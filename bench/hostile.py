@@ -4,7 +4,8 @@
 
 Both take turns in one run. The first ratio is of the bytes read by second, the other of the bytes written, since a form may
 make a text many times longer. Where the first is below a quarter, both are named at the end, and the status is 1.
-With `--assigned` each text that has no unassigned character is read with that flag, and so is its friend.
+With `--assigned` each text that has no unassigned character, and is not read with that flag anyway, is read with it, and so is
+its friend.
 """
 
 import argparse
@@ -128,10 +129,14 @@ HOSTILE = [
 ]
 
 
+def read_with_assigned() -> list[Hostile]:
+    return [replace(hostile, assigned=True) for hostile in HOSTILE if not hostile.assigned and is_assigned(hostile.again)]
+
+
 def arguments() -> argparse.Namespace:
     parser = argparse.ArgumentParser(prog="hostile.py")
     parser.add_argument("--corpora", type=Path, default=cache(), metavar="FOLDER", help="where corpora.sh put the texts")
-    parser.add_argument("--assigned", action="store_true", help="read every text with --assigned")
+    parser.add_argument("--assigned", action="store_true", help="read the texts with --assigned")
     parser.add_argument("program", nargs="?", type=Path, default=Path(__file__).parent.parent / "nfstream")
     words = parser.parse_args()
     absent = missing(words.corpora, sorted({hostile.friend for hostile in HOSTILE}))
@@ -163,7 +168,7 @@ def main() -> int:
     line(["Hostile", "To", "MB/s", "Friendly", "MB/s", "Ratio, read", "Ratio, written"])
     line(["---", "---", "---:", "---", "---:", "---:", "---:"])
     slow = []
-    rows = [replace(hostile, assigned=True) for hostile in HOSTILE if is_assigned(hostile.again)] if words.assigned else HOSTILE
+    rows = read_with_assigned() if words.assigned else HOSTILE
     for hostile in rows:
         for form in hostile.calls():
             state, text = hostile.friendly(real[hostile.friend], form)
