@@ -1,3 +1,2 @@
 pub mod BlockLemmas
-pub mod RangeLemmas
 pub mod ToldLemmas

@@ -1,5 +1,5 @@
-//! How far the bytes of a text tell that its characters are assigned (The Unicode Standard, section 2.4: general category
-//! other than Cn), for the data of the Unicode Character Database.
+//! How far the characters of a text are assigned (The Unicode Standard, section 2.4: general category other than Cn), for the data
+//! of the Unicode Character Database: most by their bytes, many at once, and the others by a look-up for each.
 #![tactic(auto)]
 
 mod front;

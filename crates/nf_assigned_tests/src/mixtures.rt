@@ -58,7 +58,7 @@ fn front_len(text: &str) -> usize {
 }
 
 #[test]
-fn no_front_is_longer_than_that_of_its_characters(rt: HostRuntime) -> Result<(), Fail> {
+fn the_front_is_that_of_its_characters(rt: HostRuntime) -> Result<(), Fail> {
     let mut seeded = Seeded::new(1);
     for round in 0..6000u32 {
         let mut text = String::new(rt.alloc());
@@ -68,8 +68,10 @@ fn no_front_is_longer_than_that_of_its_characters(rt: HostRuntime) -> Result<(),
             text.push(next_char(&mut seeded, letter, others))?;
         }
         let front = assigned_front(&text);
+        let whole = front_len(&text);
+        let at_end = text.len().saturating_sub(front) <= 68;
         assert!(rt;
-            front <= front_len(&text) && text.is_char_boundary(front),
+            (front == whole || (front < whole && at_end)) && text.is_char_boundary(front),
             "{round}"
         );
     }

@@ -11,29 +11,36 @@ pub(crate) fn is_assigned(c: char) -> bool {
     GeneralCategory::for_char(c) != GeneralCategory::Unassigned
 }
 
-/// The front ends right before a character that is not told to be assigned, and each that is unassigned is such; after the
-/// others it goes on to the last 65 bytes. The place in a block is another for each.
+/// The front of so many bytes is right: it ends before the character after `before` if that is unassigned, and else at most 68
+/// bytes before the end: the last 65 are not asked, and the first of those may be the last of a character.
+fn is_right(front: usize, before: &str, c: char, text: &str) -> bool {
+    if is_assigned(c) {
+        text.len().saturating_sub(front) <= 68
+    } else {
+        front == before.len()
+    }
+}
+
+/// The front goes on over each assigned character, and over no other. The place in a block is another for each.
 #[test]
-fn no_unassigned_character_is_passed_over(rt: HostRuntime) -> Result<(), Fail> {
+fn the_front_ends_before_an_unassigned_character(rt: HostRuntime) -> Result<(), Fail> {
     for code in 0..0x11_0000u32 {
         let Some(c) = char::from_u32(code) else {
             continue;
         };
         let before = LETTERS.get(..(code % 131) as usize).unwrap_or_default();
         let text = format!(in rt.alloc(); "{before}{c}{LETTERS}")?;
-        let front = assigned_front(&text);
-        let passed = front >= text.len().saturating_sub(65);
         assert!(rt;
-            front == before.len() || (passed && is_assigned(c)),
+            is_right(assigned_front(&text), before, c, &text),
             "{code:x}"
         );
     }
     Ok(())
 }
 
-/// Over letters of three bytes of which pairs do not tell the front goes on, and ends before a character that is unassigned.
+/// The same among letters of three bytes of which pairs do not tell.
 #[test]
-fn no_unassigned_character_of_a_script_is_passed_over(rt: HostRuntime) -> Result<(), Fail> {
+fn the_front_ends_before_an_unassigned_character_of_a_script(rt: HostRuntime) -> Result<(), Fail> {
     for letter in ['\u{B95}', '\u{E01}', '\u{10D0}', '\u{30AB}'] {
         let mut letters = String::new(rt.alloc());
         for _ in 0..44u8 {
@@ -45,9 +52,8 @@ fn no_unassigned_character_of_a_script_is_passed_over(rt: HostRuntime) -> Result
             };
             let before = letters.get(..3 * (code % 43) as usize).unwrap_or_default();
             let text = format!(in rt.alloc(); "{before}{c}{letters}")?;
-            let front = assigned_front(&text);
             assert!(rt;
-                front >= before.len() && (front == before.len() || is_assigned(c)),
+                is_right(assigned_front(&text), before, c, &text),
                 "{letter} {code:x}"
             );
         }

@@ -1,4 +1,5 @@
 mod Told
+pub mod AssignedLemmas
 mod PieceLemmas
 mod PlainLemmas
 mod WindowLemmas

@@ -1,8 +1,8 @@
 -- What a text begins with, by its bytes.
-use Rattle.std.proofs.Common.{◌≡◌, ℕ, ◌+◌, ◌*◌, ◌%◌, ◌<◌, ◌≤◌, ◌⊎◌, ⊎_elim, inl, inr, List, [], ◌∷◌, ◌++◌, length, slice_index, take, take_at, drop, drop_at, refl, sym, arith, append-nil, append_assoc, length-append}
+use Rattle.std.proofs.Common.{◌≡◌, ℕ, ◌+◌, ◌*◌, ◌%◌, ◌<◌, ◌≤◌, ◌⊎◌, ⊎_elim, inl, inr, List, [], ◌∷◌, ◌++◌, length, slice_index, take, take_at, drop, drop_at, refl, sym, ap, ◌∙◌, arith, append-nil, append_assoc, length-append}
 use Rattle.std.specs.Prelude.{chars as chars_of, encode_utf8, encode_utf8_all}
 use Rattle.std.specs.Str.{IsUtf8, IsCharBoundary, all_scalars}
-use Rattle.std.proofs.lemmas.Str.{IsCharBoundary-at_seam, IsUtf8-take, chars_from_encodes, encodes-append}
+use Rattle.std.proofs.lemmas.Str.{IsCharBoundary-at_seam, IsUtf8-take, chars_from_encodes, chars_past_char, encodes-append}
 use lib.Utf8.{scalar, scalar_cases}
 use Rattle.std.proofs.str.Laws.{order, one, two, three, four}
 use Rattle.std.proofs.lemmas.Bool.{and_parts}
@@ -114,6 +114,12 @@ first_of text (c ∷ cs, spells) high = within (order c 128) (order c 2048) (ord
           three = λ _ low. absurd (omega (arith, low, lead));
           four = λ _. record { begins = rw (e, is) at begins; fits = rw is at fits; one = λ k above below. grind (arith, order k 2, order k 3, at 1 _ e, at 2 _ e, at 3 _ e) };
         }
+
+-- there is no other, whatever stands after it
+pub same_code : {text : List ℕ} {n code : ℕ} → IsUtf8 text → HasCode text n code → (c : ℕ) (rest : List ℕ) → text ≡ encode_utf8 c ++ rest → code ≡ c
+same_code {text = text} {code = code} u here c rest is =
+    let begins : text ≡ encode_utf8 code ++ here.begins.rest = rw append-nil at here.begins.split in
+    ap (λ cs. slice_index cs 0) (sym (chars_past_char text here.begins.rest code u begins) ∙ chars_past_char text rest c u is)
 
 -- a character of this value
 pub piece_of : {p : Properties} {text : List ℕ} {n code value : ℕ} → HasCode text n code → 0 < n → value < 16 → IsValued p code value → IsPiece p text record { len = n; value = value }

@@ -2,6 +2,7 @@
 //! its compatibility decomposition, and how they stand, for the data of the Unicode Character Database.
 #![tactic(auto)]
 
+mod assigned;
 mod counted;
 mod counts;
 mod piece;
@@ -11,5 +12,6 @@ mod scripts;
 mod table;
 mod window;
 
+pub use assigned::is_assigned_at;
 pub use counted::{Counted, counted_front};
 pub use counts::Counts;

@@ -1,7 +1,7 @@
 //! 63 bytes of a text at once: where characters begin that have to be looked up.
 
 use crate::scripts::{SCRIPTS, WIDE};
-use nf_lanes::found_leads;
+use nf_lanes::{found_leads, without_lowest};
 
 /// Places of a text that are still to be looked up.
 #[derive(Clone, Copy)]
@@ -40,7 +40,7 @@ impl Window {
             return None;
         }
         let place = self.found.trailing_zeros();
-        self.found &= !(1 << place);
+        self.found = without_lowest(self.found);
         Some(self.base + place as usize)
     }
 }

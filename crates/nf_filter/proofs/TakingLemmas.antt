@@ -84,9 +84,6 @@ module _ {stands : List ℕ → Type 0} {x text rest : List ℕ} (here : HasTake
     decides-char decides decided = rw joined at (decides-within decides (x ++ here.front) (chars rest) (c ∷ []) (chars after) (chars_past_char rest after c utf8 is) decided)
 
 module _ {p : Properties} where
-  pub none_after : {text : List ℕ} → IsUtf8 text → IsAfterAssigned p text text
-  none_after u = record { front = []; split = refl; front_utf8 = ([], (refl, refl)); rest_utf8 = u; assigned = rw chars-nil }
-
   pub char_after : {text rest : List ℕ} (c : ℕ) → IsUtf8 text → IsUtf8 rest → text ≡ encode_utf8 c ++ rest → p.assigned c ≡ true → IsAfterAssigned p text rest
   char_after {text} {rest} c u rest_utf8 e assigned =
       let n = length (encode_utf8 c) in

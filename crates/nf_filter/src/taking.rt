@@ -14,12 +14,6 @@ use nf_normalizer::{STEP, Step};
 use nf_row::Rows;
 use nf_utf8::char_count;
 
-/// Where at least so many bytes were known, bytes are asked again after the next character.
-const WORTH: usize = 16;
-
-/// So many characters are looked up where fewer were.
-const MIN_LOOK_UPS: usize = 16;
-
 impl Counted {
     ghost use Rattle.std.specs.Prelude.{◌≡◌, ◌+◌, ◌<◌, ◌≤◌, Bool, false, ℕ, List, [], ◌∷◌, ◌++◌, length, chars, Err, IfErr, OnOk, MatchResult};
     ghost use Rattle.nf_forms.specs.declared.form.Form.{Form};
@@ -149,41 +143,21 @@ fn past_assigned<'t, R: Rows>(rows: &R, text: &'t str) -> &'t str
     ensures after { IsAfterAssigned (R.properties rows.now) text.now result.now }
     ensures stops { take_while (R.properties rows.now).assigned (chars result.now) ≡ [] }
 {
-    let mut rest = text;
-    let mut few = 0;
-    while !rest.is_empty() {
-        let (more, after) = past_known(rows, few, rest);
-        let mut chars = after.chars();
+    let mut rest = &text[assigned_front(rows, text)..];
+    loop {
+        let mut chars = rest.chars();
         let Some(c) = chars.next() else {
-            return after;
+            return rest;
         };
         if !rows.assigned(c) {
-            return after;
+            return rest;
         }
         rest = chars.as_str();
-        few = more - 1;
     }
-    rest
 }
 
-/// What stands after the characters that are known to be assigned, which are asked for where no few are left to be looked
-/// up. It tells how many are then to be looked up, one by one: where little was known, more than one, so that hostile text
-/// makes few calls in vain.
-#[inline(always)]
-fn past_known<'t, R: Rows>(rows: &R, few: usize, text: &'t str) -> (usize, &'t str)
-    ensures some { 0 < result.0 }
-    ensures shorter { length result.1.now ≤ length text.now }
-    ensures after { IsAfterAssigned (R.properties rows.now) text.now result.1.now }
-{
-    if few > 0 {
-        return (few, text);
-    }
-    let known = assigned_front(rows, text);
-    let more = if known < WORTH { MIN_LOOK_UPS } else { 1 };
-    (more, &text[known..])
-}
-
-/// How many bytes at the front of the text are of characters that are known to be assigned, without a look-up for each.
+/// How many bytes at the front of the text are of characters that are known to be assigned, without asking for each: of Unicode's
+/// own data all but some before the first other, or before the end.
 #[inline]
 fn assigned_front<R: Rows>(rows: &R, text: &str) -> usize
     ensures boundary { IsCharBoundary text.now result }

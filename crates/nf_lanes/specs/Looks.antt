@@ -1,11 +1,7 @@
 -- Pairs of bytes of UTF-8 (The Unicode Standard, section 3.9, Table 3-6) at which a text is looked up.
-use Rattle.std.specs.Prelude.{◌≡◌, ℕ, ◌+◌, Bool, false, not, ◌&&◌, ◌||◌, ◌==◌, nat_le, List, slice_index, bit_or, bit_xor}
+use Rattle.std.specs.Prelude.{◌≡◌, ℕ, ◌+◌, Bool, false, not, ◌==◌, List, slice_index, bit_or, bit_xor}
 use Rattle.nf_lanes.specs.Sets.{pair_sets}
 use Rattle.nf_lanes.specs.declared.sets.Pairs.{Pairs}
-
--- the two bytes begin a character from U+0380 to U+1DFF
-abbrev pub is_of_script : ℕ → ℕ → Bool
-is_of_script lead next = (nat_le 0xCE lead && nat_le lead 0xE0) || (lead == 0xE1 && not (nat_le 0xB8 next))
 
 -- the pair is in a set of the family
 abbrev pub is_in : Pairs → ℕ → ℕ → Bool

@@ -1,6 +1,6 @@
 //! A bit for each of 16 places, the lowest for the first.
 
-ghost use Rattle.std.specs.Prelude.{◌≡◌, ◌<◌, ◌≤◌, ◌+◌, ℕ, Bool, length, slice_index, map, not, ◌==◌, bit_and, bit_or, nat_le, IsTrue, ◌↔◌, if◌then◌else◌};
+ghost use Rattle.std.specs.Prelude.{◌≡◌, ◌≢◌, ◌<◌, ◌≤◌, ◌+◌, ℕ, Bool, length, slice_index, map, not, ◌==◌, bit_and, bit_or, nat_le, IsTrue, ◌↔◌, if◌then◌else◌};
 ghost use Rattle.std.specs.Int.{bit_at};
 ghost use Rattle.nf_lanes.specs.Lanes.{places, bits_at, NonePass};
 
@@ -62,4 +62,15 @@ pub(crate) fn of_64(first: u64, second: u64, third: u64, last: u64) -> u64
         → (k : ℕ) → k < 64 → bit_at result k ≡ (if p (at + k) then 1 else 0) }
 {
     ((last * 0x1_0000 + third) * 0x1_0000 + second) * 0x1_0000 + first
+}
+
+/// What is left of bits without the lowest that is set.
+#[inline(always)]
+pub fn without_lowest(set: u64) -> u64
+    requires { 0 < set }
+    ensures fewer { result < set }
+    ensures others { (place : ℕ) → bit_at set place ≡ 1 → ((k : ℕ) → k < place → bit_at set k ≡ 0)
+        → (bit_at result place ≡ 0) × ((k : ℕ) → k ≢ place → bit_at result k ≡ bit_at set k) }
+{
+    set & (set - 1)
 }

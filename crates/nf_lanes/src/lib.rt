@@ -7,7 +7,7 @@ mod looks;
 mod scripts;
 mod sets;
 
-pub use lanes::{LANES, bits, bits_of_either, none_of};
-pub use looks::{found_by_both, found_leads, left_after, none_found};
-pub use scripts::{Scripts, found_in_script};
+pub use lanes::{LANES, bits, bits_of_either, none_of, without_lowest};
+pub use looks::{found_leads, lead_bits, left_after, none_found};
+pub use scripts::Scripts;
 pub use sets::{Pairs, byte_sets, pair_sets};

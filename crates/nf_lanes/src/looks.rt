@@ -4,7 +4,7 @@ ghost use Rattle.std.specs.Prelude.{◌≡◌, ◌<◌, ◌≤◌, ◌+◌, ◌�
 ghost use Rattle.std.specs.Int.{bit_at};
 ghost use Rattle.nf_lanes.specs.Scripts.{IsToldInScript};
 ghost use Rattle.nf_lanes.specs.Lanes.{bits_at};
-ghost use Rattle.nf_lanes.specs.Looks.{is_in, is_of_script, at_pair, left_after, NoneFound, NoneAfter};
+ghost use Rattle.nf_lanes.specs.Looks.{is_in, at_pair, left_after, NoneFound, NoneAfter};
 
 use crate::lanes::{at_least, bits, bits_of_64, none_of, of_64};
 use crate::scripts::{Scripts, found_in_script};
@@ -28,19 +28,6 @@ pub fn none_found(family: &Pairs, bytes: &[u8], at: usize) -> bool
     )
 }
 
-/// A bit for each of 63 bytes from `at` on, the lowest for the first: of those from `least` on, each of which a pair is in the one
-/// family, and one in the other: the pair that it begins, or the next.
-#[inline(always)]
-pub fn found_by_both(first: &Pairs, second: &Pairs, least: u8, bytes: &[u8], at: usize) -> u64
-    requires room { at + 64 < length bytes.now }
-    ensures high { (k : ℕ) → k < 64 → bit_at result k ≡ 1 → (k < 63) × (least ≤ slice_index bytes.now (at + k)) }
-    ensures told { (k : ℕ) → k < 63 → bit_at result k ≡ 0 → least ≤ slice_index bytes.now (at + k)
-        → NoneFound (is_in first.now) bytes.now (at + k) ⊎ NoneFound (is_in second.now) bytes.now (at + k) }
-{
-    let found = found_by_pairs(high_bits(least, bytes, at), first, bytes, at);
-    found_by_pairs(found, second, bytes, at)
-}
-
 /// A bit for each of 63 bytes from `at` on, the lowest for the first: of those that begin more bytes than one, each that has to be
 /// looked up. Of a few of Latin all are set. Else, where the first is of no script that has a family, `wide` is asked; and then the
 /// family of the script of the first that is left.
@@ -51,25 +38,18 @@ pub fn found_leads(wide: &Pairs, scripts: &Scripts, bytes: &[u8], at: usize) -> 
     ensures told { (k : ℕ) → k < 63 → bit_at result k ≡ 0 → 0xC0 ≤ slice_index bytes.now (at + k)
         → NoneFound (is_in wide.now) bytes.now (at + k) ⊎ IsToldInScript scripts.now bytes.now (at + k) }
 {
-    let leads = high_bits(0xC0, bytes, at);
+    let leads = lead_bits(bytes, at);
     let first = at + leads.trailing_zeros() as usize;
-    let lead = bytes[first];
-    let found = if is_of_script(lead, bytes[first + 1]) {
+    let pair = u16::from_be_bytes([bytes[first], bytes[first + 1]]);
+    // From U+0380 to U+1DFF the families of scripts tell of most.
+    let found = if matches!(pair, 0xCE80..=0xE1B7) {
         leads
-    } else if lead < 0xE3 && leads.count_ones() < MIN_LEADS {
+    } else if pair < 0xE300 && leads.count_ones() < MIN_LEADS {
         return leads;
     } else {
         found_by_pairs(leads, wide, bytes, at)
     };
     found_in_script(found, scripts, bytes, at)
-}
-
-/// Whether a character that begins with these two bytes is from U+0380 to U+1DFF, where the families of scripts tell of most.
-#[inline(always)]
-fn is_of_script(lead: u8, next: u8) -> bool
-    ensures { result ≡ is_of_script lead next }
-{
-    matches!(lead, 0xCE..=0xE0) || (lead == 0xE1 && next < 0xB8)
 }
 
 /// Of the bits of 63 bytes from `at` on, the lowest for the first, those of which a pair is in the family: the pair that the byte
@@ -112,18 +92,18 @@ pub fn left_after(lead: u8, family: &Pairs, bytes: &[u8], at: usize) -> u64
     bits(others | pair_sets(family, bytes, at + 1))
 }
 
-/// A bit for each of 63 bytes from `at` on, the lowest for the first, that is `least` or above.
+/// A bit for each of 63 bytes from `at` on, the lowest for the first, that begins more bytes than one.
 #[inline(always)]
-fn high_bits(least: u8, bytes: &[u8], at: usize) -> u64
+pub fn lead_bits(bytes: &[u8], at: usize) -> u64
     requires room { at + 64 < length bytes.now }
-    ensures high { (k : ℕ) → k < 64 → bit_at result k ≡ 1 → (k < 63) × (least ≤ slice_index bytes.now (at + k)) }
-    ensures all { (k : ℕ) → k < 63 → least ≤ slice_index bytes.now (at + k) → bit_at result k ≡ 1 }
+    ensures leads { (k : ℕ) → k < 64 → bit_at result k ≡ 1 → (k < 63) × (0xC0 ≤ slice_index bytes.now (at + k)) }
+    ensures all { (k : ℕ) → k < 63 → 0xC0 ≤ slice_index bytes.now (at + k) → bit_at result k ≡ 1 }
 {
     let all = of_64(
-        at_least(least, bytes, at),
-        at_least(least, bytes, at + 16),
-        at_least(least, bytes, at + 32),
-        at_least(least, bytes, at + 48),
+        at_least(0xC0, bytes, at),
+        at_least(0xC0, bytes, at + 16),
+        at_least(0xC0, bytes, at + 32),
+        at_least(0xC0, bytes, at + 48),
     );
     all & (u64::MAX >> 1)
 }

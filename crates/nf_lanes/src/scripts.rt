@@ -26,7 +26,7 @@ pub struct Scripts {
 /// Of the bits of 63 bytes from `at` on, the lowest for the first, those that are still found where the bytes after the lead byte of
 /// the first of them are asked, or pairs, where that begins two bytes; all where none is asked after that.
 #[inline(always)]
-pub fn found_in_script(found: u64, scripts: &Scripts, bytes: &[u8], at: usize) -> u64
+pub(crate) fn found_in_script(found: u64, scripts: &Scripts, bytes: &[u8], at: usize) -> u64
     requires room { at + 65 < length bytes.now }
     ensures fewer { (k : ℕ) → bit_at result k ≡ 1 → bit_at found k ≡ 1 }
     ensures told { (k : ℕ) → k < 63 → bit_at found k ≡ 1 → bit_at result k ≡ 0 → IsToldInScript scripts.now bytes.now (at + k) }

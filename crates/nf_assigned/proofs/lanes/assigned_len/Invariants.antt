@@ -1,4 +1,4 @@
-use Rattle.std.proofs.Common.{◌-◌, ◌≤◌, length}
+use Rattle.std.proofs.Common.{◌-◌, ◌<◌, ◌≤◌, length}
 use Rattle.nf_assigned.specs.Bytes.{AreTold}
 use Rattle.nf_assigned.proofs.lanes.assigned_len.Given as goal
 
@@ -7,6 +7,8 @@ invariant-loop-at l = record {
   within : l.at ≤ length l.bytes;
   told : AreTold l.bytes l.at;
   few : l.windows ≤ 63;
+  some : 0 < l.looked_up;
+  less : l.looked_up ≤ 63;
 }
 
 abbrev pub decreases-loop-at : goal.decreases-loop-at

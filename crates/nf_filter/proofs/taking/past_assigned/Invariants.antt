@@ -3,11 +3,11 @@ use denote.Shadow.{shadow}
 use denote.Text.{Utf8}
 use Rattle.nf_filter.proofs.taking.past_assigned.Given as goal
 
-abbrev pub invariant-loop-rest : goal.invariant-loop-rest
-invariant-loop-rest g l = record {
+abbrev pub invariant-loop-c : goal.invariant-loop-c
+invariant-loop-c g l = record {
   utf8 : shadow (Utf8 l.rest);
   after : IsAfterAssigned (g.R.Rows.properties l.rows) l.text l.rest;
 }
 
-abbrev pub decreases-loop-rest : goal.decreases-loop-rest
-decreases-loop-rest g l = length l.rest
+abbrev pub decreases-loop-c : goal.decreases-loop-c
+decreases-loop-c g l = length l.rest
