@@ -1,11 +1,14 @@
 """Measures text that a sender chose to be slow beside friendly text of the same script, and prints a Markdown table:
 
-    python3 bench/hostile.py [--corpora FOLDER] [--assigned] [PROGRAM]      (./nfstream of the repository where none is named)
+    python3 bench/hostile.py [--corpora FOLDER] [--assigned] [--calls CALL,..] [PROGRAM]
+
+of ./nfstream of the repository where none is named, and of all forms, `check` and `measure` where no calls are.
 
 Both take turns in one run. The first ratio is of the bytes read by second, the other of the bytes written, since a form may
 make a text many times longer. Where the first is below a quarter, both are named at the end, and the status is 1.
 With `--assigned` each text that has no unassigned character, and is not read with that flag anyway, is read with it, and so is
-its friend.
+its friend; of those below a quarter it is told what the first ratio is without the flag, and the status is 1 where one is not
+below a quarter then.
 """
 
 import argparse
@@ -137,6 +140,7 @@ def arguments() -> argparse.Namespace:
     parser = argparse.ArgumentParser(prog="hostile.py")
     parser.add_argument("--corpora", type=Path, default=cache(), metavar="FOLDER", help="where corpora.sh put the texts")
     parser.add_argument("--assigned", action="store_true", help="read the texts with --assigned")
+    parser.add_argument("--calls", type=lambda word: word.split(","), metavar="CALL,..", help="what is measured: nfc, nfd, nfkc, nfkd, check, measure")
     parser.add_argument("program", nargs="?", type=Path, default=Path(__file__).parent.parent / "nfstream")
     words = parser.parse_args()
     absent = missing(words.corpora, sorted({hostile.friend for hostile in HOSTILE}))
@@ -161,28 +165,39 @@ def speed_of_both(command: list[str], hostile: bytes, friendly: bytes, effort: E
         return found
 
 
+def without_flag(hostile: Hostile, program: Path, call: str, text: bytes) -> float:
+    """The first ratio where nothing asks whether characters are assigned."""
+    mine, other = speed_of_both(replace(hostile, assigned=False).command(program, call), hostile.content(), text, FULL)
+    return mine / other
+
+
 def main() -> int:
     words = arguments()
     program = words.program.resolve()
     real = {name: front(words.corpora, name, SIZE) for name in REAL}
     line(["Hostile", "To", "MB/s", "Friendly", "MB/s", "Ratio, read", "Ratio, written"])
     line(["---", "---", "---:", "---", "---:", "---:", "---:"])
-    slow = []
-    rows = read_with_assigned() if words.assigned else HOSTILE
-    for hostile in rows:
-        for form in hostile.calls():
-            state, text = hostile.friendly(real[hostile.friend], form)
-            command = hostile.command(program, form)
+    slow, by_flag, count = [], 0, 0
+    for hostile in read_with_assigned() if words.assigned else HOSTILE:
+        for call in hostile.calls():
+            if words.calls and call not in words.calls:
+                continue
+            count += 1
+            state, text = hostile.friendly(real[hostile.friend], call)
+            command = hostile.command(program, call)
             content = hostile.content()
             mine, other = speed_of_both(command, content, text, FULL)
             read = mine / other
-            written = read * growth(command, content) / growth(command, text) if form in FORMS else read
+            written = read * growth(command, content) / growth(command, text) if call in FORMS else read
             friend = f"{REAL[hostile.friend]}, {state}"
-            line([hostile.title, form.upper() if form in FORMS else f"`{form}`", number(mine), friend, number(other), f"{read:.2f}", f"{written:.2f}"])
+            line([hostile.title, call.upper() if call in FORMS else f"`{call}`", number(mine), friend, number(other), f"{read:.2f}", f"{written:.2f}"])
             if read < BAR:
-                slow.append(f"{hostile.title}, {form.upper()}: {read:.2f} ({written:.2f})")
-    print(f"\n{len(slow)} of {sum(len(hostile.calls()) for hostile in rows)} below a quarter{': ' if slow else ''}{'; '.join(slow)}.")
-    return 1 if slow else 0
+                plain = without_flag(hostile, program, call, text) if words.assigned else read
+                by_flag += plain >= BAR
+                slow.append(f"{hostile.title}, {call.upper()}: {read:.2f} ({written:.2f})" + f", {plain:.2f} without the flag" * words.assigned)
+    alone = f", {by_flag} of them by the flag alone" * words.assigned
+    print(f"\n{len(slow)} of {count} below a quarter{alone}{': ' * bool(slow)}{'; '.join(slow)}.")
+    return 1 if (by_flag if words.assigned else slow) else 0
 
 
 if __name__ == "__main__":
