@@ -5,11 +5,11 @@ use Rattle.ucd_table.specs.Trie.{block_value}
 use Rattle.ucd_table.proofs.TrieCheck.{all_below, all_below-at}
 use Rattle.nf_forms.specs.Ucd.{is_assigned}
 use Rattle.nf_counts.proofs.AssignedLemmas.{is_assigned_by, is_first_block, assigned-by, assigned-first}
-use Rattle.nf_lanes.proofs.LooksLemmas.{Known, Tells, TellsOf, ScriptsTell, by_pairs, by_scripts, any_of, either}
-use Rattle.nf_assigned.specs.declared.lanes.By.{By}
-use Rattle.nf_assigned.specs.declared.lanes.By.TheVariants.{Leads, First, Second}
+use Rattle.nf_lanes.proofs.LooksLemmas.{Known, Tells, TellsOf, ScriptsTell, by_pairs, by_scripts, either}
+use Rattle.nf_lanes.specs.Looks.{is_in}
+use Rattle.nf_assigned.specs.declared.pairs.TheConstants.{FIRST, SECOND}
 use Rattle.nf_assigned.specs.declared.scripts.TheConstants.{SCRIPTS}
-use Rattle.nf_assigned.specs.Bytes.{finds, IsAssignedAt, IsTold}
+use Rattle.nf_assigned.specs.Bytes.{finds_lead, IsAssignedAt, IsTold}
 
 pub known : Known 0xCD 0x340 (λ c. is_assigned c ≡ true)
 unfolding is_assigned_by all_below block_value
@@ -28,21 +28,31 @@ known = record {
 }
 
 -- so of a character that one of them does not find
-by_families : (by : By) → Tells _ _ _ known (finds by)
+by_leads : Tells _ _ _ known finds_lead
 unfolding is_assigned_by is_first_block all_below block_value known
-by_families Leads = record { of_two = refl; of_three = refl; of_four = refl }
-by_families First = record { of_two = refl; of_three = refl; of_four = refl }
-by_families Second = record { of_two = refl; of_three = refl; of_four = refl }
+by_leads = record { of_two = refl; of_three = refl; of_four = refl }
+
+by_first : Tells _ _ _ known (is_in FIRST)
+unfolding is_assigned_by is_first_block all_below block_value known
+by_first = record { of_two = refl; of_three = refl; of_four = refl }
+
+by_second : Tells _ _ _ known (is_in SECOND)
+unfolding is_assigned_by is_first_block all_below block_value known
+by_second = record { of_two = refl; of_three = refl; of_four = refl }
 
 of_scripts : ScriptsTell _ _ _ known SCRIPTS
 unfolding is_assigned_by is_first_block all_below block_value known
 of_scripts = record { narrow = record { of_two = refl; of_three = refl; of_four = refl }; indic = refl; southern = refl; thai = refl; letters = refl; kana = refl }
 
-by_look_up : TellsOf 0x340 (λ c. is_assigned c ≡ true) IsAssignedAt
+by_look_up : TellsOf 0x340 (λ c. is_assigned c ≡ true) (IsAssignedAt true)
 by_look_up = record {
   after = λ piece rest k at c more e. at c more (rw (← drop-drop, drop_at piece rest (length piece) refl) e);
   of_char = λ c more scalar some at. at c more refl;
 }
 
 pub tells : TellsOf 0x340 (λ c. is_assigned c ≡ true) IsTold
-tells = either _ _ _ _ (any_of _ _ By _ (λ by. by_pairs _ _ _ known (finds by) (by_families by))) (either _ _ _ _ (by_scripts _ _ _ known SCRIPTS of_scripts) by_look_up)
+tells =
+    either _ _ _ _ (by_pairs _ _ _ known finds_lead by_leads)
+    (either _ _ _ _ (by_pairs _ _ _ known (is_in FIRST) by_first)
+    (either _ _ _ _ (by_pairs _ _ _ known (is_in SECOND) by_second)
+    (either _ _ _ _ (by_scripts _ _ _ known SCRIPTS of_scripts) by_look_up)))

@@ -1,7 +1,8 @@
-ghost use Rattle.std.specs.Prelude.{◌≡◌, true, take, chars};
+ghost use Rattle.std.specs.Prelude.{◌≡◌, ◌<◌, ◌≤◌, ◌+◌, ◌⊎◌, ℕ, true, false, length, take, chars};
 ghost use Rattle.std.specs.List.{list_all};
 ghost use Rattle.std.specs.Str.{IsCharBoundary};
 ghost use Rattle.nf_forms.specs.Ucd.{is_assigned};
+ghost use Rattle.nf_assigned.specs.Bytes.{IsAssignedAt};
 
 use crate::lanes::assigned_len;
 
@@ -10,7 +11,11 @@ use crate::lanes::assigned_len;
 #[inline]
 pub fn assigned_front(text: &str) -> usize
     ensures boundary { IsCharBoundary text.now result }
+    ensures stops { IsAssignedAt false text.now result ⊎ ((n : ℕ) → IsCharBoundary text.now n → result < n → length text.now ≤ n + 65) }
     ensures assigned { list_all is_assigned (chars (take result text.now)) ≡ true }
 {
-    text.floor_char_boundary(assigned_len(text))
+    match assigned_len(text) {
+        Ok(len) => text.floor_char_boundary(len),
+        Err(place) => place,
+    }
 }

@@ -2,8 +2,8 @@
 //! byte begins, is assigned.
 //!
 //! Most pairs are a lead byte and its second. The third byte is asked by pairs of the last two, where a block of 64 code
-//! points is much used and has few holes, as hiragana and fullwidth letters. The first family tells most of what is written
-//! by itself, and the second Hebrew, Greek and Hangul.
+//! points is much used and has few holes, as hiragana and fullwidth letters. The first family tells most of what is written,
+//! but for Greek, Hebrew and Hangul; the second tells these, most marks, and U+FFFD.
 
 use nf_lanes::Pairs;
 
@@ -19,12 +19,12 @@ pub(crate) static FIRST: Pairs = Pairs {
 };
 
 pub(crate) static SECOND: Pairs = Pairs {
-    first_high: [0, 0, 0, 0, 0, 0, 0, 0, 0, 0, 0, 0, 156, 53, 114, 254],
+    first_high: [0, 0, 0, 0, 0, 0, 0, 0, 0, 0, 0, 196, 41, 216, 143, 178],
     first_low: [
-        251, 187, 251, 107, 119, 152, 208, 13, 8, 216, 212, 8, 1, 29, 169, 163,
+        34, 166, 51, 55, 43, 128, 160, 80, 0, 0, 181, 32, 80, 152, 113, 220,
     ],
-    next_high: [0, 0, 0, 0, 0, 0, 0, 0, 79, 114, 243, 39, 0, 0, 0, 0],
+    next_high: [0, 0, 0, 0, 0, 0, 0, 0, 117, 134, 151, 90, 0, 0, 0, 0],
     next_low: [
-        60, 74, 236, 106, 104, 236, 108, 124, 108, 102, 38, 107, 19, 111, 51, 119,
+        234, 103, 103, 103, 99, 99, 99, 235, 110, 110, 102, 62, 54, 54, 246, 246,
     ],
 };

@@ -135,17 +135,11 @@ module _ (least low : ℕ) (P : ℕ → Type 0) (known : Known least low P) (fin
     of_char = of_bytes;
   }
 
--- so do two together, and many
+-- so do two together
 pub either : (low : ℕ) (P : ℕ → Type 0) (A B : List ℕ → ℕ → Type 0) → TellsOf low P A → TellsOf low P B → TellsOf low P (λ text k. A text k ⊎ B text k)
 either low P A B a b = record {
   after = λ piece rest k. ⊎_elim (λ x. inl (a.after piece rest k x)) (λ y. inr (b.after piece rest k y));
   of_char = λ c more scalar some. ⊎_elim (a.of_char c more scalar some) (b.of_char c more scalar some);
-}
-
-pub any_of : (low : ℕ) (P : ℕ → Type 0) (I : Type 0) (None : I → List ℕ → ℕ → Type 0) → ((i : I) → TellsOf low P (None i)) → TellsOf low P (λ text k. (i : I) × None i text k)
-any_of low P I None tells = record {
-  after = λ piece rest k at. (at.0, (tells at.0).after piece rest k at.1);
-  of_char = λ c more scalar some at. (tells at.0).of_char c more scalar some at.1;
 }
 
 -- so tell the families of scripts

@@ -8,6 +8,6 @@ mod scripts;
 mod sets;
 
 pub use lanes::{LANES, bits, bits_of_either, none_of, without_lowest};
-pub use looks::{found_leads, lead_bits, left_after, none_found};
+pub use looks::{found_by_pairs, found_leads, lead_bits, left_after, none_found};
 pub use scripts::Scripts;
 pub use sets::{Pairs, byte_sets, pair_sets};

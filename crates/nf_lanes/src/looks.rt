@@ -55,7 +55,7 @@ pub fn found_leads(wide: &Pairs, scripts: &Scripts, bytes: &[u8], at: usize) -> 
 /// Of the bits of 63 bytes from `at` on, the lowest for the first, those of which a pair is in the family: the pair that the byte
 /// begins, or the next.
 #[inline(always)]
-pub(crate) fn found_by_pairs(found: u64, family: &Pairs, bytes: &[u8], at: usize) -> u64
+pub fn found_by_pairs(found: u64, family: &Pairs, bytes: &[u8], at: usize) -> u64
     requires room { at + 64 < length bytes.now }
     ensures fewer { (k : ℕ) → bit_at result k ≡ 1 → bit_at found k ≡ 1 }
     ensures told { (k : ℕ) → k < 63 → bit_at found k ≡ 1 → bit_at result k ≡ 0 → NoneFound (is_in family.now) bytes.now (at + k) }

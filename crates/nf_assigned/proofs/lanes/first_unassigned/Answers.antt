@@ -18,8 +18,9 @@ is_assigned_at-requires-clause-fits c =
 pub returns-then-not-is_assigned_at-clause-some : goal.returns-then-not-is_assigned_at-clause-some
 returns-then-not-is_assigned_at-clause-some c =
     let place = bit_at-trailing_zeros w64 c.loop-left.left (omega (arith, c.loop-left-test.true)) c.loop-left.invariant.fits in
-    let inside = (c.loop-left.invariant.found.leads _ place.0 place.1).0 in
-    (omega (arith, c.requires.room, inside), told_after _ _ c.requires.told _ (λ k before. c.loop-left.invariant.found.told k (omega (arith, before, inside)) (place.2 k before)))
+    let lead = c.loop-left.invariant.found.leads _ place.0 place.1 in
+    let front = told_after _ _ c.requires.front.2 _ (λ k before. c.loop-left.invariant.found.told k (omega (arith, before, lead.0)) (place.2 k before)) in
+    ((omega arith, omega (arith, c.requires.room, lead.0), front), omega (arith, c.requires.room, lead.0), lead.1, λ d rest is. sym (c.is_assigned_at.ensures d rest is) ∙ c.if-not-is_assigned_at.true)
 
 pub loop-left-preserved : goal.loop-left-preserved
 loop-left-preserved c =
@@ -38,14 +39,15 @@ loop-left-preserved c =
             (λ after. left.told k few (grind (arith, without.1 k)) least)
             (λ upto.
             let here : k ≡ trailing_zeros w64 c.loop-left.left = omega (arith, from, upto) in
-            inr (inr (λ d rest is. sym (c.is_assigned_at.ensures d rest (rw here at is)) ∙ c.if-not-is_assigned_at.false)))
+            inr (inr (inr (inr (λ d rest is. sym (c.is_assigned_at.ensures d rest (rw here at is)) ∙ c.if-not-is_assigned_at.false)))))
             (order (trailing_zeros w64 c.loop-left.left) k))
             (order k (trailing_zeros w64 c.loop-left.left));
       };
     }
 
 pub returns-clause-none : goal.returns-clause-none
-returns-clause-none c = λ _. told_after _ _ c.requires.told 63 (λ k few. c.loop-left.invariant.found.told k few (rw c.loop-left-test.false (bit_at-zero k)))
+returns-clause-none c = λ _.
+    (omega arith, omega (arith, c.requires.room), told_after _ _ c.requires.front.2 63 (λ k few. c.loop-left.invariant.found.told k few (rw c.loop-left-test.false (bit_at-zero k))))
 
 pub loop-left-init : goal.loop-left-init
 loop-left-init c = record { fits = omega (arith, c.ranges.found.fits); found = c.requires.found }
