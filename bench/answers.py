@@ -8,7 +8,7 @@ MOST_NON_STARTERS = 30
 LONG_RUN = 64
 
 
-def character_class(characters) -> str:
+def character_class(characters: list[str]) -> str:
     """The characters as a class of a regular expression; one that matches nothing where there are none."""
     return "[" + "".join(map(re.escape, characters)) + "]" if characters else "(?!)"
 

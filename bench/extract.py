@@ -10,6 +10,7 @@ import sys
 import zipfile
 from html.parser import HTMLParser
 from pathlib import Path
+from typing import Iterator
 from unicodedata import normalize
 
 SIZE = 4 << 20
@@ -35,22 +36,22 @@ class Page(HTMLParser):
     LINES = {"p", "h1", "h2", "h3", "h4", "h5", "h6", "li", "td", "th", "div", "pre", "br"}
     SILENT = {"script", "style", "header", "aside", "footer", "title"}
 
-    def __init__(self):
+    def __init__(self) -> None:
         super().__init__()
-        self.pieces = []
+        self.pieces: list[str] = []
         self.silent = 0
 
-    def handle_starttag(self, tag, attributes):
+    def handle_starttag(self, tag: str, attributes: list[tuple[str, str | None]]) -> None:
         self.silent += tag in self.SILENT
         if tag in self.LINES:
             self.pieces.append("\n")
 
-    def handle_endtag(self, tag):
+    def handle_endtag(self, tag: str) -> None:
         self.silent -= tag in self.SILENT
         if tag in self.LINES:
             self.pieces.append("\n")
 
-    def handle_data(self, data):
+    def handle_data(self, data: str) -> None:
         if not self.silent:
             self.pieces.append(data.replace("\n", " "))
 
@@ -93,7 +94,7 @@ def content(path: Path) -> str:
     return reader(path.read_bytes()) if reader else ""
 
 
-def cleaned(text: str):
+def cleaned(text: str) -> Iterator[str]:
     """The lines without what is left of markup, each with single spaces."""
     for line in text.splitlines():
         line = re.sub(r"<[^<>]*>|\{[^{}]*\}|%[a-zA-Z0-9]+|\\[a-z]|[_~&](?=\w)", "", line)
@@ -110,7 +111,7 @@ def translated(language: str, line: str) -> bool:
     return script is None or 3 * len(re.findall(f"[{script}]", line)) >= max(letters, 1)
 
 
-def lines_of(package: Path, language: str, seen: set[str]):
+def lines_of(package: Path, language: str, seen: set[str]) -> Iterator[str]:
     """The lines of a package that were not seen before, which are then seen."""
     for path in sorted(package.rglob("*")):
         if path.is_file() and not path.is_symlink():
@@ -124,7 +125,7 @@ def filled(text: bytes) -> bytes:
     return text * -(-SIZE // len(text))
 
 
-def corpus(folder: Path, language: str, seen: set[str]):
+def corpus(folder: Path, language: str, seen: set[str]) -> list[tuple[str, str, int]]:
     """Writes the text of a language; answers what each package gave, in distinct bytes."""
     text = b""
     sources = []

@@ -146,7 +146,7 @@ def marked(text: str, letters: str, first: str, last: str) -> str:
     random = Random(SEED)
     marks = [chr(code) for code in range(ord(first), ord(last) + 1)]
 
-    def after(letter: re.Match) -> str:
+    def after(letter: re.Match[str]) -> str:
         count = random.choices((0, 1, 2), (6, 11, 1))[0]
         return letter[0] + "".join(random.sample(marks, count))
 
