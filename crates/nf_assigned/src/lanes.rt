@@ -21,7 +21,7 @@ const MAX_WINDOWS: usize = 63;
 const MAX_BY_PAIRS: u32 = 4;
 
 /// And so many, where that of a script is asked too.
-const MAX_BY_SCRIPTS: u32 = 12;
+const MAX_BY_SCRIPTS: u32 = 14;
 
 /// What is asked of 63 bytes at once. Of the characters of which it does not tell each is looked up, where they are not too many.
 #[derive(Clone, Copy)]
@@ -51,6 +51,8 @@ pub(crate) fn assigned_len(text: &str) -> Result<usize, usize>
     // The family that is asked, and the one that is once that leaves too many.
     let mut family = &FIRST;
     let mut other = &SECOND;
+    // Whether it told enough with that of a script, of more windows than one, so that it is asked again.
+    let mut is_enough = false;
     while at < end {
         let from = at;
         let left = past(By::Leads, family, text, at, end)?;
@@ -59,9 +61,12 @@ pub(crate) fn assigned_len(text: &str) -> Result<usize, usize>
         at = past(By::Pairs, family, text, left, until)?;
         if at < until {
             looked_up = MAX_WINDOWS.min(if at > from { 1 } else { 2 * looked_up });
-            swap(&mut family, &mut other);
+            if at > from || !is_enough {
+                swap(&mut family, &mut other);
+            }
             let until = end.min(at.saturating_add(63 * looked_up));
             let left = past(By::Scripts, family, text, at, until)?;
+            is_enough = looked_up > 1 && left >= until;
             at = past(By::LookUps, family, text, left, until)?;
         }
     }
@@ -108,9 +113,19 @@ fn found_by(by: By, family: &Pairs, text: &str, at: usize) -> Option<u64>
             MAX_BY_PAIRS,
             found_by_pairs(lead_bits(bytes, at), family, bytes, at),
         ),
-        By::Scripts => at_most(MAX_BY_SCRIPTS, found_leads(family, &SCRIPTS, bytes, at)),
+        By::Scripts => at_most(MAX_BY_SCRIPTS, found_by_scripts(family, text, at)),
         By::LookUps => Some(lead_bits(bytes, at)),
     }
+}
+
+/// The same, of what neither a family nor that of the first script tells. It is not in line, so that the rest is small enough to be.
+#[inline(never)]
+fn found_by_scripts(family: &Pairs, text: &str, at: usize) -> u64
+    requires family { IsFamily family.now }
+    requires room { at + 65 < length text.now }
+    ensures { AreFound text.now at result }
+{
+    found_leads(family, &SCRIPTS, text.as_bytes(), at)
 }
 
 /// These bits, where no more are set.
