@@ -60,7 +60,7 @@ def main() -> None:
     same = True
     with ThreadPoolExecutor(cpu_count()) as pool:
         todo = [(text, form) for text in texts(given.corpora, words, given.size) for form in given.forms.split(",")]
-        for line, agree in pool.map(lambda pair: row(*pair, list(programs), starts), todo):
+        for line, agree in pool.map(lambda it: row(it[0], it[1], list(programs), starts), todo):
             print(line if agree else f"{line} different answers", flush=True)
             same = same and agree
     sys.exit(0 if same else 1)

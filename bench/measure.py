@@ -53,7 +53,8 @@ def seconds(command: list[str], path: Path) -> float:
     _, status, usage = os.wait4(process, 0)
     if status != 0:
         sys.exit(f"{' '.join(command)} failed")
-    return usage.ru_utime + usage.ru_stime
+    taken: float = usage.ru_utime + usage.ru_stime
+    return taken
 
 
 def mistake(command: list[str], path: Path, answer: bytes, most: int) -> str | None:

@@ -113,16 +113,17 @@ def row(found: list[Column], input: Input, right: dict[str, bytes], form: str, e
     return slow | {title: Cell(speed, "") for title, speed in timed.items()}
 
 
-def ratio(cell: Cell, best: float) -> str:
-    share = cell.speed / best
+def ratio(speed: float, best: float) -> str:
+    share = speed / best
     return f"{share:.3f}" if share < 0.1 else f"{share:.2f}"
 
 
 def ratios(found: list[Column], cells: dict[str, Cell]) -> list[str]:
     """Each program's speed by that of the fastest peer, whichever it is."""
-    rivals = [cells[c.title].speed for c in found if c.role == "peer" and cells[c.title].speed and not cells[c.title].note]
+    peers = [cells[c.title] for c in found if c.role == "peer"]
+    rivals = [peer.speed for peer in peers if peer.speed and not peer.note]
     own = [cells[c.title] for c in found if c.role == "program"]
-    return [ratio(cell, max(rivals)) if rivals and cell.speed and not cell.note else "" for cell in own]
+    return [ratio(cell.speed, max(rivals)) if rivals and cell.speed and not cell.note else "" for cell in own]
 
 
 def line(cells: list[str]) -> None:
