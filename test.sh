@@ -33,6 +33,8 @@ gate() {
         [ "$failed" -eq 0 ] || wrong+=("the gate")
     fi
     [ "$status" -eq 0 ] || [ "$failed" -gt 0 ] || counted 1 "the gate"
+    # rt says so and passes; but an edit that does not reach the prover shows nothing of a contract.
+    ! grep -q '^rt: note: bad must-fail edits' "$work/gate" || counted 1 "must-fail edits that do not reach the prover"
     rm -f "$work/gate"
 }
 

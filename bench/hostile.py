@@ -4,11 +4,12 @@
 
 of ./nfstream of the repository where none is named, and of all forms, `check` and `measure` where no calls are.
 
-Both take turns in one run. The first ratio is of the bytes read by second, the other of the bytes written, since a form may
-make a text many times longer. Where the first is below a quarter, both are named at the end, and the status is 1.
+Both take turns, in short runs of some rounds. Speeds are the best of all, the first ratio is of the bytes read by second, the
+median of what it is in each round, and the other of the bytes written, since a form may make a text many times longer. Where the
+first is below a quarter, both are named at the end, and the status is 1.
 With `--assigned` each text that has no unassigned character, and is not read with that flag anyway, is read with it, and so is
-its friend; of those below a quarter it is told what the first ratio is without the flag, and the status is 1 where one is not
-below a quarter then.
+its friend; each is read without the flag as well, in the same rounds, and a last column has what the first ratio is then. The
+status is 1 where one is below a quarter with the flag and is not without it.
 """
 
 import argparse
@@ -17,15 +18,20 @@ import sys
 import tempfile
 from dataclasses import dataclass, replace
 from pathlib import Path
+from statistics import median
 from unicodedata import category, combining, normalize
 
-from measure import FULL, Effort, Input, speeds
+from measure import Effort, Input, speeds
 from table import FORMS, cache, line, number
 from texts import REAL, front, missing
 
 MARK, BELOW = "\u0301", "\u0316"
 SIZE = 4 << 20
 BAR = 0.25
+
+# Where others use the machine, the best of runs that stand together is chance: so few of each, and again later.
+OFTEN = Effort(size=SIZE, runs=2, least=0.05, most=20)
+ROUNDS = 7
 
 
 @dataclass
@@ -154,49 +160,71 @@ def growth(command: list[str], content: bytes) -> float:
     return len(subprocess.run(command, input=content, stdout=subprocess.PIPE, check=True).stdout) / len(content)
 
 
-def speed_of_both(command: list[str], hostile: bytes, friendly: bytes, effort: Effort) -> list[float]:
-    """Megabytes of input by second of processor time, of the hostile text and of its friend, in turns."""
+@dataclass
+class Found:
+    """Megabytes of input by second of processor time of a hostile text and of its friend, the best of all rounds, and the median of
+    the ratios."""
+
+    mine: float
+    other: float
+    ratio: float
+
+
+def found_by(commands: list[list[str]], hostile: bytes, friendly: bytes) -> list[Found]:
+    """What each of these commands makes of both."""
+    named = {str(at): command for at, command in enumerate(commands)}
     with tempfile.TemporaryDirectory() as first, tempfile.TemporaryDirectory() as second:
-        found = [0.0, 0.0]
-        inputs = [Input(Path(first), hostile), Input(Path(second), friendly)]
-        for _ in range(2):
-            for at, text in enumerate(inputs):
-                found[at] = max(found[at], speeds({"": command}, text, effort)[""])
-        return found
+        mine, other = Input(Path(first), hostile), Input(Path(second), friendly)
+        rounds = [(speeds(named, mine, OFTEN), speeds(named, other, OFTEN)) for _ in range(ROUNDS)]
+    return [Found(max(m[name] for m, _ in rounds), max(o[name] for _, o in rounds), median(m[name] / o[name] for m, o in rounds)) for name in named]
 
 
-def without_flag(hostile: Hostile, program: Path, call: str, text: bytes) -> float:
-    """The first ratio where nothing asks whether characters are assigned."""
-    mine, other = speed_of_both(replace(hostile, assigned=False).command(program, call), hostile.content(), text, FULL)
-    return mine / other
+@dataclass
+class Row:
+    """What is told of a hostile text and a call."""
+
+    hostile: Hostile
+    call: str
+    friend: str
+    found: list[Found]  # and, where that is asked for, without --assigned
+    written: float  # the ratio of the bytes written
+
+    def cells(self) -> list[str]:
+        name = self.call.upper() if self.call in FORMS else f"`{self.call}`"
+        first, *plain = self.found
+        ratios = [first.ratio, self.written, *(it.ratio for it in plain)]
+        return [self.hostile.title, name, number(first.mine), self.friend, number(first.other), *(f"{ratio:.2f}" for ratio in ratios)]
+
+    def below(self) -> str:
+        """What is said of it at the end."""
+        first, *plain = self.found
+        without = "".join(f", {it.ratio:.2f} without the flag" for it in plain)
+        return f"{self.hostile.title}, {self.call.upper()}: {first.ratio:.2f} ({self.written:.2f}){without}"
+
+
+def measured(hostile: Hostile, call: str, program: Path, real: dict[str, str], without: bool) -> Row:
+    state, text = hostile.friendly(real[hostile.friend], call)
+    command, content = hostile.command(program, call), hostile.content()
+    found = found_by([command, *[replace(hostile, assigned=False).command(program, call)] * without], content, text)
+    written = found[0].ratio * growth(command, content) / growth(command, text) if call in FORMS else found[0].ratio
+    return Row(hostile, call, f"{REAL[hostile.friend]}, {state}", found, written)
 
 
 def main() -> int:
     words = arguments()
     program = words.program.resolve()
     real = {name: front(words.corpora, name, SIZE) for name in REAL}
-    line(["Hostile", "To", "MB/s", "Friendly", "MB/s", "Ratio, read", "Ratio, written"])
-    line(["---", "---", "---:", "---", "---:", "---:", "---:"])
-    slow, by_flag, count = [], 0, 0
-    for hostile in read_with_assigned() if words.assigned else HOSTILE:
-        for call in hostile.calls():
-            if words.calls and call not in words.calls:
-                continue
-            count += 1
-            state, text = hostile.friendly(real[hostile.friend], call)
-            command = hostile.command(program, call)
-            content = hostile.content()
-            mine, other = speed_of_both(command, content, text, FULL)
-            read = mine / other
-            written = read * growth(command, content) / growth(command, text) if call in FORMS else read
-            friend = f"{REAL[hostile.friend]}, {state}"
-            line([hostile.title, call.upper() if call in FORMS else f"`{call}`", number(mine), friend, number(other), f"{read:.2f}", f"{written:.2f}"])
-            if read < BAR:
-                plain = without_flag(hostile, program, call, text) if words.assigned else read
-                by_flag += plain >= BAR
-                slow.append(f"{hostile.title}, {call.upper()}: {read:.2f} ({written:.2f})" + f", {plain:.2f} without the flag" * words.assigned)
-    alone = f", {by_flag} of them by the flag alone" * words.assigned
-    print(f"\n{len(slow)} of {count} below a quarter{alone}{': ' * bool(slow)}{'; '.join(slow)}.")
+    texts = read_with_assigned() if words.assigned else HOSTILE
+    line(["Hostile", "To", "MB/s", "Friendly", "MB/s", "Ratio, read", "Ratio, written", *["Without"] * words.assigned])
+    line(["---", "---", "---:", "---", "---:", "---:", "---:", *["---:"] * words.assigned])
+    rows = []
+    for hostile, call in [(hostile, call) for hostile in texts for call in hostile.calls() if not words.calls or call in words.calls]:
+        rows.append(measured(hostile, call, program, real, words.assigned))
+        line(rows[-1].cells())
+    slow = [row for row in rows if row.found[0].ratio < BAR]
+    by_flag = [row for row in slow if row.found[-1].ratio >= BAR]
+    alone = f", {len(by_flag)} of them by the flag alone" * words.assigned
+    print(f"\n{len(slow)} of {len(rows)} below a quarter{alone}{': ' * bool(slow)}{'; '.join(row.below() for row in slow)}.")
     return 1 if (by_flag if words.assigned else slow) else 0
 
 
