@@ -132,7 +132,7 @@ fn found_by_scripts(family: &Pairs, text: &str, at: usize) -> u64
 #[inline(always)]
 fn at_most(most: u32, found: u64) -> Option<u64>
     ensures none { IsNone result → most < count_ones found }
-    ensures some { IfSome result (λ bits. bits ≡ found) }
+    ensures some { IfSome result (λ bits. (bits ≡ found) × (count_ones found ≤ most)) }
 {
     (found.count_ones() <= most).then_some(found)
 }
