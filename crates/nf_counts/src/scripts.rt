@@ -7,13 +7,13 @@ use nf_lanes::{Pairs, Scripts};
 pub(crate) static SCRIPTS: Scripts = Scripts {
     // Of two bytes: letters of Greek, Cyrillic, Armenian, Hebrew and Arabic that have no mark are told.
     narrow: Pairs {
-        first_high: [0, 0, 0, 0, 0, 0, 0, 0, 0, 0, 0, 0, 214, 191, 205, 218],
+        first_high: [0, 0, 0, 0, 0, 0, 0, 0, 0, 0, 0, 0, 222, 191, 108, 235],
         first_low: [
-            228, 120, 225, 233, 198, 68, 200, 193, 84, 200, 196, 73, 111, 81, 159, 155,
+            228, 72, 84, 73, 66, 68, 232, 193, 84, 232, 64, 122, 69, 65, 151, 170,
         ],
-        next_high: [0, 0, 0, 0, 0, 0, 0, 0, 199, 92, 218, 107, 0, 0, 0, 0],
+        next_high: [0, 0, 0, 0, 0, 0, 0, 0, 215, 124, 250, 107, 0, 0, 0, 0],
         next_low: [
-            79, 77, 93, 93, 93, 93, 93, 77, 77, 109, 79, 201, 201, 201, 201, 201,
+            79, 77, 89, 93, 89, 89, 89, 77, 77, 101, 79, 201, 201, 201, 201, 201,
         ],
     },
     // The first set of these three, and in the next two the second, is of what the others tell.
