@@ -29,9 +29,9 @@ MARK, BELOW = "\u0301", "\u0316"
 SIZE = 4 << 20
 BAR = 0.25
 
-# Where others use the machine, the best of runs that stand together is chance: so few of each, and again later.
-OFTEN = Effort(size=SIZE, runs=2, least=0.05, most=20)
-ROUNDS = 7
+# Where others use the machine, the best of runs that stand together is chance: so one of each, and again later.
+OFTEN = Effort(size=SIZE, runs=1, least=0.02, most=20)
+ROUNDS = 9
 
 
 @dataclass
