@@ -8,8 +8,9 @@ Both take turns, in short runs of some rounds. Speeds are the best of all, the f
 median of what it is in each round, and the other of the bytes written, since a form may make a text many times longer. Where the
 first is below a quarter, both are named at the end, and the status is 1.
 With `--assigned` each text that has no unassigned character, and is not read with that flag anyway, is read with it, and so is
-its friend; each is read without the flag as well, in the same rounds, and a last column has what the first ratio is then. The
-status is 1 where one is below a quarter with the flag and is not without it.
+its friend; each is read without the flag as well, in the same rounds, and a last column has what the first ratio is then. Where
+one is below a quarter with the flag and is not without it, instructions are counted too (by valgrind), and the status is 1 where
+the flag takes a larger share of those of the hostile text than of its friend's.
 """
 
 import argparse
@@ -21,6 +22,7 @@ from pathlib import Path
 from statistics import median
 from unicodedata import category, combining, normalize
 
+from calls import counted
 from measure import Effort, Input, speeds
 from table import FORMS, cache, line, number
 from texts import REAL, front, missing
@@ -210,6 +212,24 @@ def measured(hostile: Hostile, call: str, program: Path, real: dict[str, str], w
     return Row(hostile, call, f"{REAL[hostile.friend]}, {state}", found, written)
 
 
+def share_of_flag(hostile: Hostile, call: str, program: Path, text: bytes) -> float:
+    """What the flag takes for each instruction of a run without it, over the front of a text."""
+    front = text[:1 << 16] if hostile.ill_formed() else text[:1 << 16].decode(errors="ignore").encode()
+    taken = []
+    for it in (hostile, replace(hostile, assigned=False)):
+        own, *words = it.command(program, call)
+        taken.append(counted(own, words, front) - counted(own, words, b""))
+    return taken[0] / taken[1] - 1
+
+
+def is_by_flag(row: Row, program: Path, real: dict[str, str]) -> bool:
+    """Whether by instructions too, which other work on the machine does not touch, the flag makes it slower beside its friend."""
+    friend = row.hostile.friendly(real[row.hostile.friend], row.call)[1]
+    mine, other = (share_of_flag(row.hostile, row.call, program, text) for text in (row.hostile.content(), friend))
+    print(f"\n{row.below()}; by instructions the flag adds {mine:.3f} to it, and {other:.3f} to its friend.")
+    return mine > other
+
+
 def main() -> int:
     words = arguments()
     program = words.program.resolve()
@@ -222,8 +242,9 @@ def main() -> int:
         rows.append(measured(hostile, call, program, real, words.assigned))
         line(rows[-1].cells())
     slow = [row for row in rows if row.found[0].ratio < BAR]
-    by_flag = [row for row in slow if row.found[-1].ratio >= BAR]
-    alone = f", {len(by_flag)} of them by the flag alone" * words.assigned
+    timed = [row for row in slow if row.found[-1].ratio >= BAR]
+    by_flag = [row for row in timed if is_by_flag(row, program, real)]
+    alone = f", {len(timed)} of them not without the flag, and {len(by_flag)} of these by instructions too" * words.assigned
     print(f"\n{len(slow)} of {len(rows)} below a quarter{alone}{': ' * bool(slow)}{'; '.join(row.below() for row in slow)}.")
     return 1 if (by_flag if words.assigned else slow) else 0
 
