@@ -5,12 +5,12 @@
 of ./nfstream of the repository where none is named, and of all forms, `check` and `measure` where no calls are.
 
 Both take turns, in short runs of some rounds. Speeds are the best of all, the first ratio is of the bytes read by second, the
-median of what it is in each round, and the other of the bytes written, since a form may make a text many times longer. Where the
-first is below a quarter, both are named at the end, and the status is 1.
+median of what it is in each round, and the other of the bytes written. Where the first is below a quarter, or the other where a
+form makes the text many times longer than its friend, both are named at the end, and the status is 1.
 With `--assigned` each text that has no unassigned character, and is not read with that flag anyway, is read with it, and so is
 its friend; each is read without the flag as well, in the same rounds, and a last column has what the first ratio is then. Where
 one is below a quarter with the flag and is not without it, instructions are counted too (by valgrind), and the status is 1 where
-the flag takes a larger share of those of the hostile text than of its friend's.
+the flag adds a larger share to those of the hostile text than to its friend's.
 """
 
 import argparse
@@ -30,6 +30,7 @@ from texts import REAL, front, missing
 MARK, BELOW = "\u0301", "\u0316"
 SIZE = 4 << 20
 BAR = 0.25
+MANY = 4  # a text that becomes so many times longer than its friend is measured by what is written
 
 # Where others use the machine, the best of runs that stand together is chance: so one of each, and again later.
 OFTEN = Effort(size=SIZE, runs=1, least=0.02, most=20)
@@ -197,6 +198,11 @@ class Row:
         ratios = [first.ratio, self.written, *(it.ratio for it in plain)]
         return [self.hostile.title, name, number(first.mine), self.friend, number(first.other), *(f"{ratio:.2f}" for ratio in ratios)]
 
+    def is_below(self, at: int) -> bool:
+        """Whether it is below a quarter, by the first or the last of what was found."""
+        growth = self.written / self.found[0].ratio
+        return self.found[at].ratio * (growth if growth >= MANY else 1) < BAR
+
     def below(self) -> str:
         """What is said of it at the end."""
         first, *plain = self.found
@@ -241,8 +247,8 @@ def main() -> int:
     for hostile, call in [(hostile, call) for hostile in texts for call in hostile.calls() if not words.calls or call in words.calls]:
         rows.append(measured(hostile, call, program, real, words.assigned))
         line(rows[-1].cells())
-    slow = [row for row in rows if row.found[0].ratio < BAR]
-    timed = [row for row in slow if row.found[-1].ratio >= BAR]
+    slow = [row for row in rows if row.is_below(0)]
+    timed = [row for row in slow if not row.is_below(-1)]
     by_flag = [row for row in timed if is_by_flag(row, program, real)]
     alone = f", {len(timed)} of them not without the flag, and {len(by_flag)} of these by instructions too" * words.assigned
     print(f"\n{len(slow)} of {len(rows)} below a quarter{alone}{': ' * bool(slow)}{'; '.join(row.below() for row in slow)}.")
