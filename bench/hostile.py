@@ -200,8 +200,8 @@ class Row:
 
     def is_below(self, at: int) -> bool:
         """Whether it is below a quarter, by the first or the last of what was found."""
-        growth = self.written / self.found[0].ratio
-        return self.found[at].ratio * (growth if growth >= MANY else 1) < BAR
+        longer = self.written / self.found[0].ratio
+        return self.found[at].ratio * (longer if longer >= MANY else 1) < BAR
 
     def below(self) -> str:
         """What is said of it at the end."""
@@ -219,7 +219,7 @@ def measured(hostile: Hostile, call: str, program: Path, real: dict[str, str], w
 
 
 def share_of_flag(hostile: Hostile, call: str, program: Path, text: bytes) -> float:
-    """What the flag takes for each instruction of a run without it, over the front of a text."""
+    """What the flag adds to each instruction of a run without it, over the front of a text."""
     front = text[:1 << 16] if hostile.ill_formed() else text[:1 << 16].decode(errors="ignore").encode()
     taken = []
     for it in (hostile, replace(hostile, assigned=False)):

@@ -5,7 +5,7 @@
 use nf_lanes::{Pairs, Scripts};
 
 pub(crate) static SCRIPTS: Scripts = Scripts {
-    // Of two bytes: letters of Greek, Cyrillic, Armenian, Hebrew and Arabic that have no mark are told.
+    // Of two bytes: most letters of Greek, Cyrillic, Armenian, Hebrew and Arabic that have no mark are told.
     narrow: Pairs {
         first_high: [0, 0, 0, 0, 0, 0, 0, 0, 0, 0, 0, 0, 222, 191, 108, 235],
         first_low: [
