@@ -34,7 +34,7 @@ MANY = 4  # a text that becomes so many times longer than its friend is measured
 
 # Where others use the machine, the best of runs that stand together is chance: so one of each, and again later.
 OFTEN = Effort(size=SIZE, runs=1, least=0.02, most=20)
-ROUNDS = 9
+ROUNDS = 21
 
 
 @dataclass

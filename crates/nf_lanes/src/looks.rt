@@ -12,7 +12,7 @@ use crate::sets::{Pairs, pair_sets};
 use std::simd::u8x16;
 
 /// Of so few characters no family is asked where the first is Latin: of these most that are not ASCII have to be looked up.
-const MIN_LEADS: u32 = 14;
+const MIN_LEADS: u32 = 22;
 
 /// Whether no pair is in the family that one of 63 bytes from `at` on begins, or the byte after it.
 #[inline(always)]
